@@ -1,0 +1,17 @@
+pub mod Places
+pub mod Scanning
+pub mod Ways
+pub mod CoverSteps
+pub mod Covering
+pub mod Shifting
+pub mod Locality
+pub mod Stops
+pub mod Widening
+pub mod Fitting
+pub mod Choosing
+pub mod RowTheorems
+pub mod Turns
+pub mod Following
+pub mod LayoutTheorems
+pub mod LayoutSteps
+pub mod Settling

@@ -1,0 +1,12 @@
+pub mod Endings
+pub mod Measures
+pub mod Policies
+pub mod Rows
+pub mod Texts
+pub mod Widths
+pub mod FirstFit
+pub mod Scans
+pub mod Covers
+pub mod Layouts
+pub mod Theorems
+pub mod Settings
