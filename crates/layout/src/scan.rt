@@ -92,6 +92,7 @@ impl Scan {
     // stands behind it.
     pub fn over(&self, with: &Scan, follows: Option<u8>) -> Row
         requires { ⌜ now self .place < most-characters ⌝ }
+        requires { ⌜ now with .place ≡ now self .place + 1 ⌝ }
         ensures { λ r. ⌜ r ≡ over-row (now (self .entry)) (now (with .entry)) follows ⌝ }
     {
         if let Some(last) = with.last {
@@ -100,16 +101,16 @@ impl Scan {
                 end: last.place,
                 ending: Ending::Wrapped,
                 width: last.width,
-                reach: self.place + 1,
+                reach: with.place,
             };
         }
         if self.place == self.start {
             return Row {
                 start: self.start,
-                end: self.place + 1,
+                end: with.place,
                 ending: ending_before(follows),
                 width: with.width,
-                reach: self.place + 2,
+                reach: with.place + 1,
             };
         }
         self.whole(Ending::Cut)

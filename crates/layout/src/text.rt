@@ -3,7 +3,7 @@ ghost use mathlib.Core.Path.{_≡_};
 ghost use mathlib.Core.List.{List};
 ghost use Prim.Native.Nat.{ℕ, _≤_, _<_};
 ghost use lib.ListN.{length};
-ghost use Rattle.layout.specs.Texts.{seen, most-characters};
+ghost use Rattle.layout.specs.Texts.{seen, part, most-characters};
 ghost use Rattle.std.specs.Of.Vec.{vec-items, vec-len};
 ghost use Rattle.std.specs.Results.{Cases};
 
@@ -51,6 +51,15 @@ impl Text {
         ensures { λ r. ⌜ now r ≡ vec-items (now (self .entry) .chars) ⌝ }
     {
         self.chars.as_slice()
+    }
+
+    // The part [start, end) of the text, as far as the text goes.
+    pub fn part(&self, start: usize, end: usize) -> &[u8]
+        ensures { λ r. ⌜ now r ≡ part (vec-items (now (self .entry) .chars)) start end ⌝ }
+    {
+        let end = end.min(self.chars.len());
+        let start = start.min(end);
+        &self.chars[start..end]
     }
 }
 

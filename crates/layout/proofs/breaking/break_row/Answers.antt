@@ -64,7 +64,7 @@ over-requires g c κs =
     let t = g .T·Characters .chars (c .args .text .now) in
     let within : c .scan .scan .place < length t = seen-within t _ _ (sym (c .in-Some .ensures tt)) in
     let few = g .T·Characters·met .few (c .args .text .now) in
-    omega arith
+    (omega arith, ap (λ (x : Scan). x .place) (c .taken-next .ensures))
 
 pub returns-then-next-units : need.returns-then-next-units
 returns-then-next-units g c =

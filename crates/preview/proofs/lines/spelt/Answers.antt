@@ -6,7 +6,7 @@ use lib.Utf8.{encode}
 use Rattle.std.proofs.shelf.Lists.{joined-more, take-more, take-all}
 use Rattle.std.specs.Of.String.{string-bytes}
 use Rattle.preview.specs.Lines.{spelt}
-use Rattle.preview.proofs.spelt.Needs as need
+use Rattle.preview.proofs.lines.spelt.Needs as need
 
 pub loop-c-again : need.loop-c-again
 loop-c-again c =

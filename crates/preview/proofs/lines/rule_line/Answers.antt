@@ -6,7 +6,7 @@ use lib.Dec.{lit<}
 use lib.ListN.{replicate}
 use Rattle.std.proofs.shelf.Lists.{replicate-more}
 use Rattle.std.specs.Of.String.{string-bytes}
-use Rattle.preview.proofs.rule_line.Needs as need
+use Rattle.preview.proofs.lines.rule_line.Needs as need
 
 pub loop-again : need.loop-again
 loop-again c =

@@ -1,0 +1,75 @@
+-- Labels worked out by hand. A row reads start, end, ending, width, reach.
+use mathlib.Core.Bool.{Bool, true, false, cond, _||_}
+use mathlib.Core.List.{List, [], _∷_}
+use mathlib.Core.Path.{_≡_}
+use Prim.Native.Nat.{ℕ}
+use lib.Chars.{codes}
+use lib.Dec.{eqb}
+use Rattle.std.specs.declared.option.Option.{Option}
+use Rattle.std.specs.declared.option.Option.the-variants.{Some, None}
+use Rattle.std.specs.declared.result.Result.the-variants.{Ok}
+use Rattle.metrics.specs.Cells.{cells-meaning}
+use Rattle.metrics.specs.Meaning.{Meaning}
+use Rattle.layout.specs.Policies.{Rules, spaces, anywhere}
+use Rattle.layout.specs.Settings.{setting-of}
+use Rattle.layout.specs.declared.ending.Ending.{Ending}
+use Rattle.layout.specs.declared.ending.Ending.the-variants.{Wrapped, Cut, Newline, End}
+use Rattle.layout.specs.declared.row.Row.{Row}
+
+pub record Case : Type 0 where
+  pub meaning : Meaning
+  pub rules : Rules
+  pub measure : ℕ
+  pub text : List ℕ
+  pub rows : List Row
+
+abbrev row : ℕ → ℕ → Ending → ℕ → ℕ → Row
+row s e g w r = record { start = s; end = e; ending = g; width = w; reach = r }
+
+abbrev label : Meaning → Rules → ℕ → List ℕ → List Row → Case
+label m P w t rs = record { meaning = m; rules = P; measure = w; text = t; rows = rs }
+
+-- most labels are in cells of 500
+abbrev in-cells : Rules → ℕ → List ℕ → List Row → Case
+in-cells P w t rs = label (cells-meaning 500) P w t rs
+
+-- space 100, a 600, b 1200, c 300, and b after a space takes 1200 back
+abbrev glyph-width : ℕ → ℕ
+glyph-width c = cond (eqb c 32) 100 (cond (eqb c 97) 600 (cond (eqb c 98) 1200 (cond (eqb c 99) 300 0)))
+
+abbrev kerned-advance : Option ℕ → ℕ → ℕ
+kerned-advance None c = glyph-width c
+kerned-advance (Some p) c = cond (eqb p 32) (cond (eqb c 98) 0 (glyph-width c)) (glyph-width c)
+
+abbrev kerned : Meaning
+kerned = record { covers = λ c. eqb c 32 || (eqb c 97 || (eqb c 98 || eqb c 99)); adv = kerned-advance; depth = λ _. 0 }
+
+abbrev pub worked : List Case
+worked =
+    -- an empty text
+    in-cells spaces 5000 (codes "") (row 0 0 End 0 1 ∷ [])
+    -- ten characters that fit exactly
+    ∷ in-cells spaces 5000 (codes "abcdefghij") (row 0 10 End 5000 11 ∷ [])
+    -- eleven are cut
+    ∷ in-cells spaces 5000 (codes "abcdefghijk") (row 0 10 Cut 5000 11 ∷ row 10 11 End 500 12 ∷ [])
+    -- two spaces hang
+    ∷ in-cells spaces 5000 (codes "abcdefghij  ") (row 0 12 End 5000 13 ∷ [])
+    -- each character is wider than the measure
+    ∷ in-cells spaces 499 (codes "ab") (row 0 1 Cut 500 2 ∷ row 1 2 End 500 3 ∷ [])
+    -- a newline
+    ∷ in-cells spaces 5000 (10 ∷ []) (row 0 0 Newline 0 1 ∷ row 1 1 End 0 2 ∷ [])
+    -- a wrap at the last allowed place
+    ∷ in-cells spaces 5000 (codes "the red ink") (row 0 8 Wrapped 3500 11 ∷ row 8 11 End 1500 12 ∷ [])
+    -- the same where a row may end anywhere
+    ∷ in-cells anywhere 5000 (codes "the red ink") (row 0 10 Wrapped 5000 11 ∷ row 10 11 End 500 12 ∷ [])
+    -- a kern counts only inside a row
+    ∷ label kerned spaces 1000 (codes "a bcc") (row 0 2 Wrapped 600 5 ∷ row 2 3 Cut 1200 4 ∷ row 3 5 End 600 6 ∷ [])
+    ∷ []
+
+-- the label comes out as the table says
+abbrev pub Holds : Case → Type 0
+Holds c = setting-of (c .meaning) (c .rules) (c .measure) (c .text) ≡ Ok (c .rows)
+
+abbrev pub All-hold : List Case → Type 0
+All-hold [] = Unit {0}
+All-hold (c ∷ cs) = Holds c × All-hold cs

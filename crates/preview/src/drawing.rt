@@ -1,0 +1,61 @@
+// The label as the customer sees it, drawn in columns of a terminal.
+use layout::measure::Measure;
+use layout::policy::Policy;
+use layout::row::Row;
+use metrics::measurer::Measurer;
+use std::alloc::AllocError;
+use std::alloc::Global;
+
+// How many units a column of the drawing stands for.
+pub const COLUMN: usize = 500;
+
+// How many columns the measure takes, the last one perhaps in part.
+pub fn columns(measure: Measure) -> usize {
+    (measure.units() as usize).div_ceil(COLUMN)
+}
+
+// The row's characters without those that hang at its end.
+pub fn unhung<'a, P: Policy>(policy: &P, chars: &'a [u8]) -> &'a [u8] {
+    let mut end = chars.len();
+    'trim: while end > 0 && policy.hangs(chars[end - 1]) {
+        end -= 1;
+    }
+    &chars[0..end]
+}
+
+// A row inside the frame: each character stands in the column where its advance begins, or in the
+// next free one. A row that is wider than the measure is marked.
+pub fn framed_row<M: Measurer>(
+    heap: Global,
+    measurer: &mut M,
+    measure: Measure,
+    row: &Row,
+    chars: &[u8],
+) -> Result<String, AllocError> {
+    let mut line = String::from_str(heap, "|")?;
+    let mut edge: usize = 0;
+    let mut before = None;
+    let mut used = 0;
+    for c in chars {
+        let column = edge / COLUMN;
+        pad(&mut line, column.saturating_sub(used))?;
+        line.push(char::from(*c))?;
+        used = used.max(column).saturating_add(1);
+        let advance = measurer.advance(before, *c).unwrap_or(0);
+        edge = edge.saturating_add(usize::from(advance));
+        before = Some(*c);
+    }
+    pad(&mut line, columns(measure).saturating_sub(used))?;
+    line.push('|')?;
+    if row.width > measure.units() {
+        line.push_str(" < wider than the label")?;
+    }
+    Ok(line)
+}
+
+fn pad(line: &mut String, columns: usize) -> Result<(), AllocError> {
+    for _ in 0..columns {
+        line.push(' ')?;
+    }
+    Ok(())
+}
