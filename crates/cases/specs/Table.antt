@@ -10,11 +10,11 @@ use Rattle.std.specs.declared.option.Option.the-variants.{Some, None}
 use Rattle.std.specs.declared.result.Result.the-variants.{Ok}
 use Rattle.metrics.specs.Cells.{cells-meaning}
 use Rattle.metrics.specs.Meaning.{Meaning}
-use Rattle.layout.specs.Policies.{Rules, spaces, anywhere}
+use Rattle.page.specs.Policies.{Rules, spaces, anywhere}
 use Rattle.layout.specs.Settings.{setting-of}
-use Rattle.layout.specs.declared.ending.Ending.{Ending}
-use Rattle.layout.specs.declared.ending.Ending.the-variants.{Wrapped, Cut, Newline, End}
-use Rattle.layout.specs.declared.row.Row.{Row}
+use Rattle.page.specs.declared.ending.Ending.{Ending}
+use Rattle.page.specs.declared.ending.Ending.the-variants.{Wrapped, Cut, Newline, End}
+use Rattle.page.specs.declared.row.Row.{Row}
 
 pub record Case : Type 0 where
   pub meaning : Meaning

@@ -1,22 +1,22 @@
 // The table of worked labels, run.
-use layout::ending::Ending;
-use layout::measure::Measure;
-use layout::measure::NoSuchMeasureDebug;
-use layout::policy::Anywhere;
-use layout::policy::AnywherePolicy;
-use layout::policy::Policy;
-use layout::policy::Spaces;
-use layout::policy::SpacesPolicy;
-use layout::row::Row;
-use layout::row::RowDebug;
-use layout::row::RowPartialEq;
 use layout::setting::SetFaultDebug;
 use layout::setting::set_text;
-use layout::text::Text;
-use layout::text::TooLongDebug;
 use metrics::cells::Cells;
 use metrics::cells::CellsMeasurer;
 use metrics::fault::OutOfRangeDebug;
+use page::ending::Ending;
+use page::measure::Measure;
+use page::measure::NoSuchMeasureDebug;
+use page::policy::Anywhere;
+use page::policy::AnywherePolicy;
+use page::policy::Policy;
+use page::policy::Spaces;
+use page::policy::SpacesPolicy;
+use page::row::Row;
+use page::row::RowDebug;
+use page::row::RowPartialEq;
+use page::text::Text;
+use page::text::TooLongDebug;
 use std::alloc::Global;
 use std::test::*;
 

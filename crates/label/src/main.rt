@@ -1,16 +1,16 @@
 // Sets a text in cells of 500, and shows its rows and the label.
-use layout::measure::Measure;
-use layout::policy::Policy;
-use layout::policy::Spaces;
-use layout::policy::SpacesPolicy;
-use layout::row::Row;
 use layout::row_list::RowList;
 use layout::setting::set_text;
-use layout::text::MAX_CHARACTERS;
-use layout::text::Text;
 use metrics::cells::Cells;
 use metrics::cells::CellsMeasurer;
 use metrics::measurer::Measurer;
+use page::measure::Measure;
+use page::policy::Policy;
+use page::policy::Spaces;
+use page::policy::SpacesPolicy;
+use page::row::Row;
+use page::text::MAX_CHARACTERS;
+use page::text::Text;
 use preview::drawing::columns;
 use preview::drawing::framed_row;
 use preview::drawing::unhung;

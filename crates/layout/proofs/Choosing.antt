@@ -9,11 +9,11 @@ use Rattle.std.proofs.shelf.Tests.{cases-lt, both-ways}
 use Rattle.metrics.specs.Meaning.{Meaning}
 use Rattle.layout.specs.FirstFit.{Stop, at-stop, breakable, Over, LastBreak, row-to, RowFrom}
 use Rattle.layout.specs.FirstFit.RowFrom.{whole, wrapped, cut, single, lone}
-use Rattle.layout.specs.Policies.{Rules}
-use Rattle.layout.specs.Texts.{seen, part}
+use Rattle.page.specs.Policies.{Rules}
+use Rattle.page.specs.Texts.{seen, part}
 use Rattle.layout.specs.Widths.{width}
-use Rattle.layout.specs.declared.ending.Ending.the-variants.{Wrapped, Cut}
-use Rattle.layout.specs.declared.row.Row.{Row}
+use Rattle.page.specs.declared.ending.Ending.the-variants.{Wrapped, Cut}
+use Rattle.page.specs.declared.row.Row.{Row}
 use Rattle.layout.proofs.Stops.{stop-unique}
 
 module _ (m : Meaning) (P : Rules) (w : ℕ) (t : List ℕ) (s : ℕ) where

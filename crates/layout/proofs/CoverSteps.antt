@@ -10,7 +10,7 @@ use Rattle.std.specs.declared.option.Option.the-variants.{Some, None}
 use Rattle.metrics.specs.Meaning.{Meaning, missing}
 use Rattle.metrics.specs.declared.fault.MissingGlyph.{MissingGlyph}
 use Rattle.layout.specs.Covers.{first-uncovered, lacking}
-use Rattle.layout.specs.Texts.{newline}
+use Rattle.page.specs.Texts.{newline}
 use Rattle.layout.specs.declared.cover.Uncovered.{Uncovered}
 
 pub none-uncovered : (m : Meaning) (i : ℕ) → first-uncovered m i [] ≡ None

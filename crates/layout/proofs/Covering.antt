@@ -11,14 +11,14 @@ use Rattle.std.specs.declared.option.Option.the-variants.{Some}
 use Rattle.std.specs.declared.result.Result.the-variants.{Ok, Err}
 use Rattle.metrics.specs.Meaning.{Meaning, missing}
 use Rattle.layout.specs.Covers.{Covered, first-uncovered}
-use Rattle.layout.specs.Policies.{Rules}
-use Rattle.layout.specs.Texts.{seen, newline}
+use Rattle.page.specs.Policies.{Rules}
+use Rattle.page.specs.Texts.{seen, newline}
 use Rattle.layout.specs.Scans.{scan, row-from, fresh, whole-row, over-row}
 use Rattle.layout.specs.declared.cover.Uncovered.{Uncovered}
-use Rattle.layout.specs.declared.ending.Ending.the-variants.{Newline, End}
-use Rattle.layout.specs.declared.row.Row.{Row}
+use Rattle.page.specs.declared.ending.Ending.the-variants.{Newline, End}
+use Rattle.page.specs.declared.row.Row.{Row}
 use Rattle.layout.specs.declared.scan.Scan.{Scan}
-use Rattle.layout.proofs.Places.{seen-drop}
+use Rattle.page.proofs.Places.{seen-drop}
 use Rattle.layout.proofs.Scanning.{scan-nil, scan-newline, scan-missing, scan-over, scan-on}
 use Rattle.layout.proofs.Ways.{after, way}
 use Rattle.layout.proofs.Ways.Way.{stops, misses, exceeds, goes-on}

@@ -15,14 +15,14 @@ use Rattle.std.specs.declared.result.Result.the-variants.{Ok}
 use Rattle.metrics.specs.Meaning.{Meaning}
 use Rattle.layout.specs.FirstFit.{Stop, at-stop, may-between, breakable, Over, row-to, RowFrom}
 use Rattle.layout.specs.FirstFit.RowFrom.{whole, wrapped, cut, single, lone}
-use Rattle.layout.specs.Policies.{Rules}
-use Rattle.layout.specs.Texts.{seen, part, newline}
+use Rattle.page.specs.Policies.{Rules}
+use Rattle.page.specs.Texts.{seen, part, newline}
 use Rattle.layout.specs.Widths.{sum-after, edge, unhung, width}
 use Rattle.layout.specs.Scans.{scan, row-from, fresh, may-before, last-break, whole-row, ending-before, over-row}
-use Rattle.layout.specs.declared.row.Row.{Row}
+use Rattle.page.specs.declared.row.Row.{Row}
 use Rattle.layout.specs.declared.scan.Break.{Break}
 use Rattle.layout.specs.declared.scan.Scan.{Scan}
-use Rattle.layout.proofs.Places.{seen-next, seen-within}
+use Rattle.page.proofs.Places.{seen-next, seen-within}
 use Rattle.layout.proofs.Scanning.{scan-nil, scan-newline, scan-missing, scan-over, scan-on}
 use Rattle.layout.proofs.Stops.{unseen-past, stop-back, stop-from, stop-behind}
 use Rattle.layout.proofs.Ways.{after, way}

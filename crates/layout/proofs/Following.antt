@@ -9,14 +9,14 @@ use Rattle.std.specs.declared.option.Option.the-variants.{Some, None}
 use Rattle.metrics.specs.Meaning.{Meaning}
 use Rattle.layout.specs.FirstFit.{Stop, at-stop, RowFrom}
 use Rattle.layout.specs.FirstFit.RowFrom.{whole, wrapped, cut, single, lone}
-use Rattle.layout.specs.Policies.{Rules}
-use Rattle.layout.specs.Rows.{next-after, following}
-use Rattle.layout.specs.Texts.{seen}
+use Rattle.page.specs.Policies.{Rules}
+use Rattle.page.specs.Rows.{next-after, following}
+use Rattle.page.specs.Texts.{seen}
 use Rattle.layout.specs.Theorems.{moved}
-use Rattle.layout.specs.declared.ending.Ending.{Ending}
-use Rattle.layout.specs.declared.ending.Ending.the-variants.{Wrapped, Cut, Newline, End}
-use Rattle.layout.specs.declared.row.Row.{Row}
-use Rattle.layout.proofs.Places.{seen-within}
+use Rattle.page.specs.declared.ending.Ending.{Ending}
+use Rattle.page.specs.declared.ending.Ending.the-variants.{Wrapped, Cut, Newline, End}
+use Rattle.page.specs.declared.row.Row.{Row}
+use Rattle.page.proofs.Places.{seen-within}
 
 pub record Placed (t : List ℕ) (s : ℕ) (r : Row) : Type 0 where
   pub starts : r .start ≡ s

@@ -13,13 +13,13 @@ use Rattle.layout.specs.Covers.{Covered}
 use Rattle.layout.specs.FirstFit.{RowFrom, RowsFrom}
 use Rattle.layout.specs.FirstFit.RowsFrom.{end, more}
 use Rattle.layout.specs.Layouts.{laid-from}
-use Rattle.layout.specs.Policies.{Rules}
-use Rattle.layout.specs.Rows.{following}
+use Rattle.page.specs.Policies.{Rules}
+use Rattle.page.specs.Rows.{following}
 use Rattle.layout.specs.Scans.{row-from}
 use Rattle.layout.specs.Theorems.{moved, moved-answer, Agree, Reach-within, LayoutLaws}
 use Rattle.layout.specs.declared.cover.Uncovered.{Uncovered}
 use Rattle.layout.specs.declared.laying.LayFault.the-variants.{NoGlyph, TooManyRows}
-use Rattle.layout.specs.declared.row.Row.{Row}
+use Rattle.page.specs.declared.row.Row.{Row}
 use Rattle.layout.proofs.Following.{placed, following-moved}
 use Rattle.layout.proofs.RowTheorems.{row-laws}
 use Rattle.layout.proofs.Turns.{laid-full, laid-missing, laid-last, laid-on, turn}

@@ -1,4 +1,3 @@
-pub mod Places
 pub mod Scanning
 pub mod Ways
 pub mod CoverSteps

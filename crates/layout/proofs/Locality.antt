@@ -12,15 +12,15 @@ use Rattle.std.specs.declared.option.Option.{Option}
 use Rattle.std.specs.declared.option.Option.the-variants.{Some, None}
 use Rattle.std.specs.declared.result.Result.the-variants.{Ok}
 use Rattle.metrics.specs.Meaning.{Meaning}
-use Rattle.layout.specs.Policies.{Rules}
-use Rattle.layout.specs.Texts.{seen}
+use Rattle.page.specs.Policies.{Rules}
+use Rattle.page.specs.Texts.{seen}
 use Rattle.layout.specs.Scans.{scan, row-from, fresh, whole-row, cut-row, broken-row, over-row}
 use Rattle.layout.specs.Theorems.{Agree}
-use Rattle.layout.specs.declared.ending.Ending.the-variants.{Newline, End}
-use Rattle.layout.specs.declared.row.Row.{Row}
+use Rattle.page.specs.declared.ending.Ending.the-variants.{Newline, End}
+use Rattle.page.specs.declared.row.Row.{Row}
 use Rattle.layout.specs.declared.scan.Break.{Break}
 use Rattle.layout.specs.declared.scan.Scan.{Scan}
-use Rattle.layout.proofs.Places.{seen-drop}
+use Rattle.page.proofs.Places.{seen-drop}
 use Rattle.layout.proofs.Scanning.{scan-nil, scan-newline, scan-missing, scan-over, scan-on}
 use Rattle.layout.proofs.Ways.{after, way}
 use Rattle.layout.proofs.Ways.Way.{stops, misses, exceeds, goes-on}

@@ -6,11 +6,11 @@ use lib.ListN.{length}
 use Rattle.std.specs.declared.result.Result.{Result}
 use Rattle.std.specs.declared.result.Result.the-variants.{Ok, Err}
 use Rattle.metrics.specs.Meaning.{Meaning}
-use Rattle.layout.specs.Policies.{Rules}
+use Rattle.page.specs.Policies.{Rules}
 use Rattle.layout.specs.Scans.{row-from}
 use Rattle.layout.specs.Theorems.{RowLaws, Rightly-broken}
 use Rattle.layout.specs.declared.cover.Uncovered.{Uncovered}
-use Rattle.layout.specs.declared.row.Row.{Row}
+use Rattle.page.specs.declared.row.Row.{Row}
 use Rattle.layout.proofs.Covering.{exists, fails-at-first}
 use Rattle.layout.proofs.Choosing.{only-one}
 use Rattle.layout.proofs.Fitting.{is-first-fit}

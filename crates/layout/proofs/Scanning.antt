@@ -13,12 +13,12 @@ use Rattle.std.specs.declared.result.Result.{Result}
 use Rattle.std.specs.declared.result.Result.the-variants.{Ok, Err}
 use Rattle.metrics.specs.Meaning.{Meaning, answer, missing}
 use Rattle.metrics.specs.declared.fault.MissingGlyph.{MissingGlyph}
-use Rattle.layout.specs.Policies.{Rules}
-use Rattle.layout.specs.Texts.{seen, newline}
+use Rattle.page.specs.Policies.{Rules}
+use Rattle.page.specs.Texts.{seen, newline}
 use Rattle.layout.specs.Scans.{scan, taken, whole-row, over-row}
-use Rattle.layout.specs.declared.ending.Ending.the-variants.{Newline, End}
+use Rattle.page.specs.declared.ending.Ending.the-variants.{Newline, End}
 use Rattle.layout.specs.declared.scan.Scan.{Scan}
-use Rattle.layout.proofs.Places.{drop-seen, drop-unseen, seen-next}
+use Rattle.page.proofs.Places.{drop-seen, drop-unseen, seen-next}
 
 pub answer-ok : (m : Meaning) (p : Option ℕ) (c a : ℕ) → answer m p c ≡ Ok a → (m .covers c ≡ true) × (m .adv p c ≡ a)
 answer-ok m p c a e = go (m .covers c) refl

@@ -18,16 +18,16 @@ use Rattle.metrics.specs.declared.fault.MissingGlyph.{MissingGlyph}
 use Rattle.layout.specs.Covers.{Covered, first-uncovered, lacking, cover-answer}
 use Rattle.layout.specs.FirstFit.{RowsFrom}
 use Rattle.layout.specs.Layouts.{Laid, laid, laid-from, most-rows}
-use Rattle.layout.specs.Policies.{Rules}
-use Rattle.layout.specs.Rows.{following}
+use Rattle.page.specs.Policies.{Rules}
+use Rattle.page.specs.Rows.{following}
 use Rattle.layout.specs.Scans.{row-from}
 use Rattle.layout.specs.Settings.{setting-of, set-by, rows-if, Accepted, Tells-first, Rightly-refused}
-use Rattle.layout.specs.Texts.{seen, newline}
+use Rattle.page.specs.Texts.{seen, newline}
 use Rattle.layout.specs.Theorems.{LayoutLaws}
 use Rattle.layout.specs.declared.cover.Uncovered.{Uncovered}
 use Rattle.layout.specs.declared.laying.LayFault.{LayFault}
 use Rattle.layout.specs.declared.laying.LayFault.the-variants.{NoGlyph, TooManyRows}
-use Rattle.layout.specs.declared.row.Row.{Row}
+use Rattle.page.specs.declared.row.Row.{Row}
 use Rattle.layout.proofs.CoverSteps.{none-uncovered, next-uncovered, this-uncovered}
 use Rattle.layout.proofs.Turns.{laid-full, laid-missing, laid-last, laid-on, turn}
 use Rattle.layout.proofs.Turns.Turn.{misses, ends, goes-on}

@@ -11,12 +11,12 @@ use Rattle.std.proofs.shelf.Tests.{eq-eqb, ne-eqb, cases-eq, cases-bool}
 use Rattle.std.specs.declared.option.Option.{Option}
 use Rattle.std.specs.declared.option.Option.the-variants.{Some, None}
 use Rattle.metrics.specs.Meaning.{Meaning}
-use Rattle.layout.specs.Policies.{Rules}
-use Rattle.layout.specs.Texts.{seen}
+use Rattle.page.specs.Policies.{Rules}
+use Rattle.page.specs.Texts.{seen}
 use Rattle.layout.specs.Scans.{scan, row-from, fresh, taken, may-before, last-break, whole-row, cut-row, broken-row, over-row}
 use Rattle.layout.specs.Theorems.{moved, moved-answer}
-use Rattle.layout.specs.declared.ending.Ending.{Ending}
-use Rattle.layout.specs.declared.ending.Ending.the-variants.{Newline, End}
+use Rattle.page.specs.declared.ending.Ending.{Ending}
+use Rattle.page.specs.declared.ending.Ending.the-variants.{Newline, End}
 use Rattle.layout.specs.declared.scan.Break.{Break}
 use Rattle.layout.specs.declared.scan.Scan.{Scan}
 use Rattle.layout.proofs.Scanning.{scan-nil, scan-newline, scan-missing, scan-over, scan-on}

@@ -9,8 +9,8 @@ use Rattle.std.proofs.shelf.Tests.{cases-eq, cases-lt}
 use Rattle.std.specs.declared.option.Option.{Option}
 use Rattle.std.specs.declared.option.Option.the-variants.{Some, None}
 use Rattle.layout.specs.FirstFit.{Stop}
-use Rattle.layout.specs.Texts.{seen, newline}
-use Rattle.layout.proofs.Places.{drop-unseen, seen-within}
+use Rattle.page.specs.Texts.{seen, newline}
+use Rattle.page.proofs.Places.{drop-unseen, seen-within}
 
 pub unseen-past : (t : List ℕ) (i : ℕ) → seen t i ≡ None → length t ≤ i
 unseen-past t i e = let h = sym (length-drop i t) ∙ ap length (drop-unseen t i e) in omega arith

@@ -8,12 +8,12 @@ use Rattle.std.specs.declared.result.Result.{Result}
 use Rattle.std.specs.declared.result.Result.the-variants.{Ok, Err}
 use Rattle.metrics.specs.Meaning.{Meaning}
 use Rattle.layout.specs.Layouts.{over, then-laid, laid-from}
-use Rattle.layout.specs.Policies.{Rules}
-use Rattle.layout.specs.Rows.{following}
+use Rattle.page.specs.Policies.{Rules}
+use Rattle.page.specs.Rows.{following}
 use Rattle.layout.specs.Scans.{row-from}
 use Rattle.layout.specs.declared.cover.Uncovered.{Uncovered}
 use Rattle.layout.specs.declared.laying.LayFault.the-variants.{NoGlyph, TooManyRows}
-use Rattle.layout.specs.declared.row.Row.{Row}
+use Rattle.page.specs.declared.row.Row.{Row}
 
 module _ (m : Meaning) (P : Rules) (w : ℕ) (t : List ℕ) where
   pub laid-full : (s : ℕ) → laid-from m P w t 0 s ≡ over TooManyRows

@@ -5,8 +5,8 @@ use mathlib.Core.Logic.{inl, inr}
 use Prim.Native.Nat.{ℕ, _<_, _≤_}
 use Rattle.std.proofs.shelf.Tests.{cases-bool, cases-lt, cases-eq}
 use Rattle.metrics.specs.Meaning.{Meaning}
-use Rattle.layout.specs.Policies.{Rules}
-use Rattle.layout.specs.Texts.{newline}
+use Rattle.page.specs.Policies.{Rules}
+use Rattle.page.specs.Texts.{newline}
 use Rattle.layout.specs.Scans.{taken}
 use Rattle.layout.specs.declared.scan.Scan.{Scan}
 

@@ -11,10 +11,10 @@ use Rattle.std.proofs.shelf.Tests.{cases-bool}
 use Rattle.std.specs.declared.option.Option.{Option}
 use Rattle.std.specs.declared.option.Option.the-variants.{Some, None}
 use Rattle.metrics.specs.Meaning.{Meaning}
-use Rattle.layout.specs.Policies.{Rules}
-use Rattle.layout.specs.Texts.{seen, part}
+use Rattle.page.specs.Policies.{Rules}
+use Rattle.page.specs.Texts.{seen, part}
 use Rattle.layout.specs.Widths.{sum-after, edge, unhung, trimmed, width}
-use Rattle.layout.proofs.Places.{seen-drop}
+use Rattle.page.proofs.Places.{seen-drop}
 
 -- the last character, p if there is none
 unfoldable pub last-after : Option ℕ → List ℕ → Option ℕ

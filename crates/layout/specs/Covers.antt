@@ -10,7 +10,7 @@ use Rattle.std.specs.declared.result.Result.{Result}
 use Rattle.std.specs.declared.result.Result.the-variants.{Ok, Err}
 use Rattle.metrics.specs.Meaning.{Meaning, missing}
 use Rattle.metrics.specs.declared.fault.MissingGlyph.{MissingGlyph}
-use Rattle.layout.specs.Texts.{seen, newline}
+use Rattle.page.specs.Texts.{seen, newline}
 use Rattle.layout.specs.declared.cover.Uncovered.{Uncovered}
 
 -- every character but the newline has a glyph

@@ -8,13 +8,13 @@ use lib.ListN.{length}
 use Rattle.std.specs.declared.option.Option.{Option}
 use Rattle.std.specs.declared.option.Option.the-variants.{Some, None}
 use Rattle.metrics.specs.Meaning.{Meaning}
-use Rattle.layout.specs.Policies.{Rules}
-use Rattle.layout.specs.Rows.{following}
-use Rattle.layout.specs.Texts.{seen, part, newline}
+use Rattle.page.specs.Policies.{Rules}
+use Rattle.page.specs.Rows.{following}
+use Rattle.page.specs.Texts.{seen, part, newline}
 use Rattle.layout.specs.Widths.{width}
-use Rattle.layout.specs.declared.ending.Ending.{Ending}
-use Rattle.layout.specs.declared.ending.Ending.the-variants.{Wrapped, Cut, Newline, End}
-use Rattle.layout.specs.declared.row.Row.{Row}
+use Rattle.page.specs.declared.ending.Ending.{Ending}
+use Rattle.page.specs.declared.ending.Ending.the-variants.{Wrapped, Cut, Newline, End}
+use Rattle.page.specs.declared.row.Row.{Row}
 
 -- q is the first newline at or after s, or the end of the text
 pub record Stop (t : List ℕ) (s q : ℕ) : Type 0 where

@@ -8,12 +8,12 @@ use Rattle.std.specs.declared.result.Result.{Result}
 use Rattle.std.specs.declared.result.Result.the-variants.{Ok, Err}
 use Rattle.metrics.specs.Meaning.{Meaning}
 use Rattle.layout.specs.Covers.{told}
-use Rattle.layout.specs.Policies.{Rules}
-use Rattle.layout.specs.Rows.{following}
+use Rattle.page.specs.Policies.{Rules}
+use Rattle.page.specs.Rows.{following}
 use Rattle.layout.specs.Scans.{row-from}
 use Rattle.layout.specs.declared.laying.LayFault.{LayFault}
 use Rattle.layout.specs.declared.laying.LayFault.the-variants.{NoGlyph, TooManyRows}
-use Rattle.layout.specs.declared.row.Row.{Row}
+use Rattle.page.specs.declared.row.Row.{Row}
 
 -- the most rows that a layout has
 abbrev pub most-rows : ℕ

@@ -1,8 +1,3 @@
-pub mod Endings
-pub mod Measures
-pub mod Policies
-pub mod Rows
-pub mod Texts
 pub mod Widths
 pub mod FirstFit
 pub mod Scans

@@ -9,12 +9,12 @@ use Rattle.std.specs.declared.option.Option.the-variants.{Some, None}
 use Rattle.std.specs.declared.result.Result.{Result}
 use Rattle.std.specs.declared.result.Result.the-variants.{Ok, Err}
 use Rattle.metrics.specs.Meaning.{Meaning, missing}
-use Rattle.layout.specs.Policies.{Rules}
-use Rattle.layout.specs.Texts.{seen, newline}
+use Rattle.page.specs.Policies.{Rules}
+use Rattle.page.specs.Texts.{seen, newline}
 use Rattle.layout.specs.declared.cover.Uncovered.{Uncovered}
-use Rattle.layout.specs.declared.ending.Ending.{Ending}
-use Rattle.layout.specs.declared.ending.Ending.the-variants.{Wrapped, Cut, Newline, End}
-use Rattle.layout.specs.declared.row.Row.{Row}
+use Rattle.page.specs.declared.ending.Ending.{Ending}
+use Rattle.page.specs.declared.ending.Ending.the-variants.{Wrapped, Cut, Newline, End}
+use Rattle.page.specs.declared.row.Row.{Row}
 use Rattle.layout.specs.declared.scan.Break.{Break}
 use Rattle.layout.specs.declared.scan.Scan.{Scan}
 

@@ -12,12 +12,12 @@ use Rattle.metrics.specs.Meaning.{Meaning, missing}
 use Rattle.layout.specs.Covers.{Covered, first-uncovered}
 use Rattle.layout.specs.FirstFit.{RowsFrom}
 use Rattle.layout.specs.Layouts.{Laid, laid, lay-told, most-rows}
-use Rattle.layout.specs.Policies.{Rules}
-use Rattle.layout.specs.Texts.{seen, newline}
+use Rattle.page.specs.Policies.{Rules}
+use Rattle.page.specs.Texts.{seen, newline}
 use Rattle.layout.specs.declared.cover.Uncovered.{Uncovered}
 use Rattle.layout.specs.declared.laying.LayFault.{LayFault}
 use Rattle.layout.specs.declared.laying.LayFault.the-variants.{NoGlyph, TooManyRows}
-use Rattle.layout.specs.declared.row.Row.{Row}
+use Rattle.page.specs.declared.row.Row.{Row}
 use Rattle.layout.specs.declared.setting.SetFault.{SetFault}
 use Rattle.layout.specs.declared.setting.SetFault.the-variants.{Refused, Memory}
 

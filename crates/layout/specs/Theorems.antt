@@ -10,12 +10,12 @@ use Rattle.metrics.specs.Meaning.{Meaning}
 use Rattle.layout.specs.Covers.{Covered, first-uncovered}
 use Rattle.layout.specs.FirstFit.{RowFrom, RowsFrom}
 use Rattle.layout.specs.Layouts.{laid-from}
-use Rattle.layout.specs.Policies.{Rules}
+use Rattle.page.specs.Policies.{Rules}
 use Rattle.layout.specs.Scans.{row-from}
-use Rattle.layout.specs.Texts.{seen}
+use Rattle.page.specs.Texts.{seen}
 use Rattle.layout.specs.declared.cover.Uncovered.{Uncovered}
 use Rattle.layout.specs.declared.laying.LayFault.the-variants.{NoGlyph, TooManyRows}
-use Rattle.layout.specs.declared.row.Row.{Row}
+use Rattle.page.specs.declared.row.Row.{Row}
 
 -- what a broken row is, in the typesetter's words: the row by first fit, or what is told of the first
 -- character from s on that has no glyph

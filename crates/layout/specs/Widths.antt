@@ -5,7 +5,7 @@ use Prim.Native.Nat.{ℕ, _+_}
 use Rattle.std.specs.declared.option.Option.{Option}
 use Rattle.std.specs.declared.option.Option.the-variants.{Some, None}
 use Rattle.metrics.specs.Meaning.{Meaning}
-use Rattle.layout.specs.Policies.{Rules}
+use Rattle.page.specs.Policies.{Rules}
 
 -- the running sum of the advances, the first after p
 unfoldable pub sum-after : Meaning → Option ℕ → List ℕ → ℕ

@@ -5,14 +5,14 @@ ghost use lib.ListN.{length};
 ghost use Rattle.layout.specs.Scans.{row-from};
 ghost use Rattle.layout.specs.Theorems.{Rightly-broken, RowLaws};
 use crate::cover::Uncovered;
-use crate::ending::Ending;
-use crate::measure::Measure;
-use crate::policy::Policy;
-use crate::row::Row;
 use crate::scan::Scan;
-use crate::text::Characters;
-use crate::text::NEWLINE;
 use metrics::measurer::Measurer;
+use page::ending::Ending;
+use page::measure::Measure;
+use page::policy::Policy;
+use page::row::Row;
+use page::text::Characters;
+use page::text::NEWLINE;
 
 // Breaks the row that starts at `start`, or at the end of the text if that comes first, and adds one
 // to the tally of rows broken.

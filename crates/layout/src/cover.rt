@@ -1,15 +1,13 @@
 // Characters without a glyph.
 ghost use mathlib.Core.Path.{_≡_};
 ghost use Rattle.layout.specs.Covers.{first-uncovered, cover-answer, lacking};
-use crate::text::NEWLINE;
 use metrics::fault::MissingGlyph;
 use metrics::fault::MissingGlyphDebug;
-use metrics::fault::MissingGlyphEq;
-use metrics::fault::MissingGlyphPartialEq;
 use metrics::measurer::Measurer;
+use page::text::NEWLINE;
 
 // The character at `offset` has no glyph.
-#[derive(Clone, Copy, Debug, PartialEq, Eq)]
+#[derive(Clone, Copy, Debug)]
 pub struct Uncovered {
     pub offset: usize,
     pub glyph: MissingGlyph,

@@ -8,18 +8,16 @@ ghost use Rattle.std.specs.Of.Vec.{vec-items};
 use crate::breaking::break_row;
 use crate::cover::Uncovered;
 use crate::cover::UncoveredDebug;
-use crate::cover::UncoveredEq;
-use crate::cover::UncoveredPartialEq;
-use crate::measure::Measure;
-use crate::policy::Policy;
 use crate::row_list::Full;
 use crate::row_list::MAX_ROWS;
 use crate::row_list::RowList;
-use crate::text::Characters;
 use metrics::measurer::Measurer;
+use page::measure::Measure;
+use page::policy::Policy;
+use page::text::Characters;
 
 // Why a text is not laid.
-#[derive(Clone, Copy, Debug, PartialEq, Eq)]
+#[derive(Clone, Copy, Debug)]
 pub enum LayFault {
     // a character has no glyph
     NoGlyph(Uncovered),

@@ -5,7 +5,7 @@ ghost use Prim.Native.Nat.{_≤_, _<_};
 ghost use Rattle.std.specs.Of.Vec.{vec-items, vec-len, vec-cap};
 ghost use Rattle.std.specs.Results.{Cases};
 ghost use Rattle.std.specs.Vec.{made};
-use crate::row::Row;
+use page::row::Row;
 use std::alloc::AllocError;
 use std::alloc::Global;
 
@@ -21,7 +21,7 @@ pub struct RowList {
 }
 
 // All 1,024 places are taken.
-#[derive(Clone, Copy, Debug, PartialEq, Eq)]
+#[derive(Clone, Copy)]
 pub struct Full;
 
 impl RowList {

@@ -2,11 +2,11 @@
 ghost use mathlib.Core.Path.{_≡_};
 ghost use Prim.Native.Nat.{_+_, _^_, _<_, _≤_};
 ghost use Rattle.layout.specs.Scans.{fresh, last-break, taken, whole-row, ending-before, over-row};
-ghost use Rattle.layout.specs.Texts.{most-characters};
-use crate::ending::Ending;
-use crate::policy::Policy;
-use crate::row::Row;
-use crate::text::NEWLINE;
+ghost use Rattle.page.specs.Texts.{most-characters};
+use page::ending::Ending;
+use page::policy::Policy;
+use page::row::Row;
+use page::text::NEWLINE;
 
 // A place where the policy allows a break, and the width of the row if it ends there.
 #[derive(Clone, Copy)]

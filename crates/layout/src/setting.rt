@@ -10,20 +10,18 @@ use crate::cover::Uncovered;
 use crate::cover::check_cover;
 use crate::laying::LayFault;
 use crate::laying::LayFaultDebug;
-use crate::laying::LayFaultEq;
-use crate::laying::LayFaultPartialEq;
 use crate::laying::lay;
-use crate::measure::Measure;
-use crate::policy::Policy;
 use crate::row_list::RowList;
-use crate::text::Text;
-use crate::text::TextCharacters;
 use metrics::measurer::Measurer;
+use page::measure::Measure;
+use page::policy::Policy;
+use page::text::Text;
+use page::text::TextCharacters;
 use std::alloc::AllocError;
 use std::alloc::Global;
 
 // Why a text is not set.
-#[derive(Clone, Copy, Debug, PartialEq, Eq)]
+#[derive(Clone, Copy, Debug)]
 pub enum SetFault {
     Refused(LayFault),
     Memory,

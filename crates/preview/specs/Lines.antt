@@ -5,8 +5,8 @@ use lib.ListN.{replicate}
 use lib.Utf8.{encode}
 use Rattle.std.specs.Joined.{joined}
 use Rattle.std.specs.Written.{decimal}
-use Rattle.layout.specs.Endings.{letter-of}
-use Rattle.layout.specs.declared.row.Row.{Row}
+use Rattle.page.specs.Endings.{letter-of}
+use Rattle.page.specs.declared.row.Row.{Row}
 
 -- each code as the character of Latin-1
 abbrev pub spelt : List ℕ → List ℕ

@@ -1,8 +1,8 @@
 // The label as the customer sees it, drawn in columns of a terminal.
-use layout::measure::Measure;
-use layout::policy::Policy;
-use layout::row::Row;
 use metrics::measurer::Measurer;
+use page::measure::Measure;
+use page::policy::Policy;
+use page::row::Row;
 use std::alloc::AllocError;
 use std::alloc::Global;
 

@@ -3,7 +3,7 @@ ghost use mathlib.Core.Path.{_≡_};
 ghost use Rattle.preview.specs.Lines.{row-line, rule-line, spelt};
 ghost use Rattle.std.specs.Of.String.{string-bytes};
 ghost use Rattle.std.specs.Vec.{made};
-use layout::row::Row;
+use page::row::Row;
 use std::alloc::AllocError;
 use std::alloc::Global;
 

@@ -2,14 +2,14 @@
 ghost use mathlib.Core.Path.{_≡_};
 ghost use Rattle.preview.specs.declared.words.Refusal.the-variants.{Long, NoMeasure, Unset, Setting};
 use layout::laying::LayFault;
-use layout::measure::NoSuchMeasure;
-use layout::measure::NoSuchMeasureDebug;
 use layout::setting::SetFault;
 use layout::setting::SetFaultDebug;
-use layout::text::TooLong;
-use layout::text::TooLongDebug;
 use metrics::fault::OutOfRange;
 use metrics::fault::OutOfRangeDebug;
+use page::measure::NoSuchMeasure;
+use page::measure::NoSuchMeasureDebug;
+use page::text::TooLong;
+use page::text::TooLongDebug;
 use std::error::Error;
 use std::fmt;
 

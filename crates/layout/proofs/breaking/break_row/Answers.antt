@@ -7,9 +7,9 @@ use Rattle.std.specs.declared.result.Result.the-variants.{Ok, Err}
 use Rattle.std.specs.declared.option.Option.the-variants.{Some, None}
 use Rattle.metrics.specs.Meaning.{Meaning, answer}
 use Rattle.layout.specs.Scans.{row-from, taken, over-row}
-use Rattle.layout.specs.Texts.{seen}
+use Rattle.page.specs.Texts.{seen}
 use Rattle.layout.specs.declared.scan.Scan.{Scan}
-use Rattle.layout.proofs.Places.{seen-within}
+use Rattle.page.proofs.Places.{seen-within}
 use Rattle.layout.proofs.RowTheorems.{row-laws, rightly-broken}
 use Rattle.layout.proofs.Scanning.{at-newline, at-missing, at-over, at-on, at-end}
 use Rattle.layout.proofs.breaking.break_row.Needs as need

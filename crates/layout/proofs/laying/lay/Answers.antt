@@ -11,10 +11,10 @@ use Rattle.std.proofs.shelf.Lists.{length-push}
 use Rattle.std.proofs.shelf.Results.{err-from-errBy}
 use Rattle.metrics.specs.Meaning.{Meaning}
 use Rattle.layout.specs.Layouts.{laid, laid-from, most-rows}
-use Rattle.layout.specs.Rows.{following}
+use Rattle.page.specs.Rows.{following}
 use Rattle.layout.specs.Scans.{row-from}
 use Rattle.layout.specs.declared.laying.LayFault.the-variants.{NoGlyph, TooManyRows}
-use Rattle.layout.specs.declared.row.Row.{Row}
+use Rattle.page.specs.declared.row.Row.{Row}
 use Rattle.layout.proofs.Following.{Placed, placed}
 use Rattle.layout.proofs.RowTheorems.{row-laws}
 use Rattle.layout.proofs.LayoutTheorems.{layout-laws}

@@ -1,11 +1,11 @@
 // The measure: the width that rows are set to.
 ghost use mathlib.Core.Path.{_≡_};
 ghost use Prim.Native.Nat.{_≤_};
-ghost use Rattle.layout.specs.Measures.{Measures};
+ghost use Rattle.page.specs.Measures.{Measures};
 ghost use Rattle.std.specs.Results.{Cases};
 
 // No measure exists outside 1 to 60,000, so that whoever is given one need not look.
-#[derive(Clone, Copy, Debug)]
+#[derive(Clone, Copy)]
 pub struct Measure {
     units: u32,
     ghost least: { 1 ≤ units },
@@ -13,7 +13,7 @@ pub struct Measure {
 }
 
 // A measure outside 1 to 60,000 was asked for.
-#[derive(Clone, Copy, Debug, PartialEq, Eq)]
+#[derive(Clone, Copy, Debug)]
 pub struct NoSuchMeasure;
 
 impl NoSuchMeasure {

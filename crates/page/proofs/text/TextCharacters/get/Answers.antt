@@ -1,7 +1,7 @@
 use mathlib.Core.Path.{ap, _∙_}
-use Rattle.layout.specs.Texts.{seen}
-use Rattle.layout.proofs.Places.{item-seen}
-use Rattle.layout.proofs.text.TextCharacters.get.Needs as need
+use Rattle.page.specs.Texts.{seen}
+use Rattle.page.proofs.Places.{item-seen}
+use Rattle.page.proofs.text.TextCharacters.get.Needs as need
 
 pub returns : need.returns
 returns c =

@@ -13,7 +13,7 @@ use Rattle.std.specs.Options.{mapped}
 use Rattle.std.specs.Places.{Item}
 use Rattle.std.specs.declared.option.Option.{Option}
 use Rattle.std.specs.declared.option.Option.the-variants.{Some, None}
-use Rattle.layout.specs.Texts.{seen, part}
+use Rattle.page.specs.Texts.{seen, part}
 
 pub drop-seen : (t : List ℕ) (i c : ℕ) → seen t i ≡ Some c → drop i t ≡ c ∷ drop (i + 1) t
 drop-seen [] i c e = let z : _≡_ {A = ℕ} 0 1 = cc in absurd (omega arith)

@@ -3,9 +3,9 @@
 use Prim.Native.Nat.{ℕ, _+_}
 use Rattle.std.specs.declared.option.Option.{Option}
 use Rattle.std.specs.declared.option.Option.the-variants.{Some, None}
-use Rattle.layout.specs.declared.ending.Ending.{Ending}
-use Rattle.layout.specs.declared.ending.Ending.the-variants.{Wrapped, Cut, Newline, End}
-use Rattle.layout.specs.declared.row.Row.{Row}
+use Rattle.page.specs.declared.ending.Ending.{Ending}
+use Rattle.page.specs.declared.ending.Ending.the-variants.{Wrapped, Cut, Newline, End}
+use Rattle.page.specs.declared.row.Row.{Row}
 
 abbrev pub next-after : Ending → ℕ → Option ℕ
 next-after Wrapped e = Some e

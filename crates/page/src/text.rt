@@ -3,7 +3,7 @@ ghost use mathlib.Core.Path.{_≡_};
 ghost use mathlib.Core.List.{List};
 ghost use Prim.Native.Nat.{ℕ, _≤_, _<_};
 ghost use lib.ListN.{length};
-ghost use Rattle.layout.specs.Texts.{seen, part, most-characters};
+ghost use Rattle.page.specs.Texts.{seen, part, most-characters};
 ghost use Rattle.std.specs.Of.Vec.{vec-items, vec-len};
 ghost use Rattle.std.specs.Results.{Cases};
 
@@ -34,7 +34,7 @@ pub struct Text {
 }
 
 // More than 4,096 characters would stand.
-#[derive(Clone, Copy, Debug, PartialEq, Eq)]
+#[derive(Clone, Copy, Debug)]
 pub struct TooLong;
 
 impl Text {

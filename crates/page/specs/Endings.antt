@@ -1,7 +1,7 @@
 -- The letters of a row's endings: W, C, N and E.
 use Prim.Native.Nat.{ℕ}
-use Rattle.layout.specs.declared.ending.Ending.{Ending}
-use Rattle.layout.specs.declared.ending.Ending.the-variants.{Wrapped, Cut, Newline, End}
+use Rattle.page.specs.declared.ending.Ending.{Ending}
+use Rattle.page.specs.declared.ending.Ending.the-variants.{Wrapped, Cut, Newline, End}
 
 abbrev pub letter-of : Ending → ℕ
 letter-of Wrapped = 87

@@ -1,6 +1,6 @@
 // Break policies: between which neighbours a row may end, and which characters hang.
 ghost use mathlib.Core.Path.{_≡_};
-ghost use Rattle.layout.specs.Policies.{Rules, spaces, anywhere};
+ghost use Rattle.page.specs.Policies.{Rules, spaces, anywhere};
 
 pub trait Policy {
     ghost rules: { Self → Rules };
@@ -15,7 +15,7 @@ pub trait Policy {
 }
 
 // Rows end after spaces, and spaces hang.
-#[derive(Clone, Copy, Debug)]
+#[derive(Clone, Copy)]
 pub struct Spaces;
 
 pub impl Policy for Spaces as SpacesPolicy {
@@ -31,7 +31,7 @@ pub impl Policy for Spaces as SpacesPolicy {
 }
 
 // Rows end anywhere, and nothing hangs.
-#[derive(Clone, Copy, Debug)]
+#[derive(Clone, Copy)]
 pub struct Anywhere;
 
 pub impl Policy for Anywhere as AnywherePolicy {

@@ -1,8 +1,8 @@
 // A row of a laid text.
 ghost use mathlib.Core.Path.{_≡_};
 ghost use Prim.Native.Nat.{_≤_};
-ghost use Rattle.layout.specs.Rows.{following};
-ghost use Rattle.layout.specs.Texts.{most-characters};
+ghost use Rattle.page.specs.Rows.{following};
+ghost use Rattle.page.specs.Texts.{most-characters};
 use crate::ending::Ending;
 use crate::ending::EndingDebug;
 use crate::ending::EndingEq;

@@ -1,6 +1,6 @@
 // Why a row ends where it does.
 ghost use mathlib.Core.Path.{_≡_};
-ghost use Rattle.layout.specs.Endings.{letter-of};
+ghost use Rattle.page.specs.Endings.{letter-of};
 
 #[derive(Clone, Copy, Debug, PartialEq, Eq)]
 pub enum Ending {

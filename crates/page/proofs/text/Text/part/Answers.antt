@@ -3,9 +3,9 @@ use mathlib.Core.List.{List}
 use Prim.Native.Nat.{ℕ, min}
 use lib.ListN.{length}
 use Rattle.std.specs.Of.Vec.{vec-items}
-use Rattle.layout.specs.Texts.{part}
-use Rattle.layout.proofs.Places.{part-within}
-use Rattle.layout.proofs.text.Text.part.Needs as need
+use Rattle.page.specs.Texts.{part}
+use Rattle.page.proofs.Places.{part-within}
+use Rattle.page.proofs.text.Text.part.Needs as need
 
 pub returns : need.returns
 returns c =

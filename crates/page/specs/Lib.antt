@@ -1,0 +1,5 @@
+pub mod Endings
+pub mod Measures
+pub mod Policies
+pub mod Rows
+pub mod Texts
