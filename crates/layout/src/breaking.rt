@@ -1,9 +1,10 @@
 // The one step by which every row is broken.
 ghost use mathlib.Core.Path.{_≡_};
-ghost use Prim.Native.Nat.{_+_, _%_, _^_, min};
+ghost use Prim.Native.Nat.{_+_, _%_, _^_, _≤_, min};
 ghost use lib.ListN.{length};
 ghost use Rattle.layout.specs.Scans.{row-from};
 ghost use Rattle.layout.specs.Theorems.{Rightly-broken, RowLaws};
+ghost use Rattle.page.specs.Texts.{most-characters};
 use crate::cover::Uncovered;
 use crate::scan::Scan;
 use metrics::measurer::Measurer;
@@ -29,6 +30,7 @@ pub fn break_row<T: Characters, M: Measurer, P: Policy>(
     ensures value { λ r. ⌜ (sound (now (measurer .entry)) → r ≡ row-from (meaning (now (measurer .entry))) (rules (now (policy .entry))) (measure .units) (chars (now (text .entry))) (min start (length (chars (now (text .entry)))))) ⌝ }
     ensures first_fit { λ r. ⌜ (sound (now (measurer .entry)) → Rightly-broken (meaning (now (measurer .entry))) (rules (now (policy .entry))) (measure .units) (chars (now (text .entry))) (min start (length (chars (now (text .entry))))) r) ⌝ }
     ensures laws { λ _. ⌜ RowLaws (meaning (now (measurer .entry))) (rules (now (policy .entry))) (measure .units) ⌝ }
+    ensures few { λ _. ⌜ length (chars (now (text .entry))) ≤ most-characters ⌝ }
     ensures counted { λ _. ⌜ now (tally .exit) ≡ (now (tally .entry) + 1) % 2 ^ 64 ⌝ }
 {
     *tally = tally.wrapping_add(1);

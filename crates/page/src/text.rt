@@ -16,10 +16,9 @@ pub const NEWLINE: u8 = b'\n';
 pub trait Characters {
     ghost chars: { Self → List ℕ };
 
-    law few: { (t : Self) → length (chars t) ≤ most-characters };
-
     fn len(&self) -> usize
-        ensures { λ r. ⌜ r ≡ length (chars (now (self .entry))) ⌝ };
+        ensures value { λ r. ⌜ r ≡ length (chars (now (self .entry))) ⌝ }
+        ensures few { λ r. ⌜ length (chars (now (self .entry))) ≤ most-characters ⌝ };
 
     // The character at a place, if the text goes that far.
     fn get(&self, at: usize) -> Option<u8>

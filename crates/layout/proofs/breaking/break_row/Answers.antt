@@ -28,6 +28,7 @@ returns-then-c-eq-NEWLINE g c =
       value = found;
       first-fit = λ s. rightly-broken m P w t (min (c .args .start) (length t)) _ (omega arith) (found s);
       laws = row-laws m P w;
+      few = c .len .ensures .few;
       counted = refl;
     }
 
@@ -49,6 +50,7 @@ returns-in-Err g c =
       value = found;
       first-fit = λ s. rightly-broken m P w t (min (c .args .start) (length t)) _ (omega arith) (found s);
       laws = row-laws m P w;
+      few = c .len .ensures .few;
       counted = refl;
     }
 
@@ -56,14 +58,14 @@ pub taken-next-requires : need.taken-next-requires
 taken-next-requires g c κs =
     let t = g .T·Characters .chars (c .args .text .now) in
     let within : c .scan .scan .place < length t = seen-within t _ _ (sym (c .in-Some .ensures tt)) in
-    let few = g .T·Characters·met .few (c .args .text .now) in
+    let few = c .len .ensures .few in
     omega arith
 
 pub over-requires : need.over-requires
 over-requires g c κs =
     let t = g .T·Characters .chars (c .args .text .now) in
     let within : c .scan .scan .place < length t = seen-within t _ _ (sym (c .in-Some .ensures tt)) in
-    let few = g .T·Characters·met .few (c .args .text .now) in
+    let few = c .len .ensures .few in
     (omega arith, ap (λ (x : Scan). x .place) (c .taken-next .ensures))
 
 pub returns-then-next-units : need.returns-then-next-units
@@ -88,6 +90,7 @@ returns-then-next-units g c =
       value = found;
       first-fit = λ s. rightly-broken m P w t (min (c .args .start) (length t)) _ (omega arith) (found s);
       laws = row-laws m P w;
+      few = c .len .ensures .few;
       counted = refl;
     }
 
@@ -136,5 +139,6 @@ returns g c =
       value = found;
       first-fit = λ s. rightly-broken m P w t (min (c .args .start) (length t)) _ (omega arith) (found s);
       laws = row-laws m P w;
+      few = c .len .ensures .few;
       counted = refl;
     }

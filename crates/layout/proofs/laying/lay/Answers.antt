@@ -59,7 +59,7 @@ returns-in-rest g c =
     let found : (s : g .M·Measurer .sound (c .args .measurer .now)) → row-from m P w t (c .rows .start) ≡ Ok r = λ s.
     broke-at (c .rows .start) (length t) (inv .2 s) (λ k. row-from m P w t k) ∙ ap (λ (x : Meaning). row-from x P w t (min (c .rows .start) (length t))) (sym (inv .0)) ∙ sym (told .value (inv .1 s)) in
     let within : (s : g .M·Measurer .sound (c .args .measurer .now)) → r .end ≤ 4096 = λ s.
-    let e = (placed m P w t (c .rows .start) r (row-laws m P w .is-first-fit t (c .rows .start) r (inv .2 s) (found s))) .ends in let few = g .T·Characters·met .few (c .args .text .now) in omega arith in
+    let e = (placed m P w t (c .rows .start) r (row-laws m P w .is-first-fit t (c .rows .start) r (inv .2 s) (found s))) .ends in let few = told .few in omega arith in
     let ended : (s : g .M·Measurer .sound (c .args .measurer .now)) → Ended (laid m P w t) (Ok tt) (done ++ r ∷ []) (length done + 1) = λ s.
     stopped-at-end m P w t most-rows done (c .rows .start) (laid m P w t) (inv .3 s) r short (found s) (sym (c .in-rest .ensures tt (within s))) in
     record {
@@ -100,7 +100,7 @@ rows-again g c =
     let found : (s : g .M·Measurer .sound (c .args .measurer .now)) → row-from m P w t (c .rows .start) ≡ Ok r = λ s.
     broke-at (c .rows .start) (length t) (inv .2 s) (λ k. row-from m P w t k) ∙ ap (λ (x : Meaning). row-from x P w t (min (c .rows .start) (length t))) (sym (inv .0)) ∙ sym (told .value (inv .1 s)) in
     let within : (s : g .M·Measurer .sound (c .args .measurer .now)) → r .end ≤ 4096 = λ s.
-    let e = (placed m P w t (c .rows .start) r (row-laws m P w .is-first-fit t (c .rows .start) r (inv .2 s) (found s))) .ends in let few = g .T·Characters·met .few (c .args .text .now) in omega arith in
+    let e = (placed m P w t (c .rows .start) r (row-laws m P w .is-first-fit t (c .rows .start) r (inv .2 s) (found s))) .ends in let few = told .few in omega arith in
     let next : (s : g .M·Measurer .sound (c .args .measurer .now)) → following r ≡ Some s′ = λ s. sym (c .in-Some .ensures tt (within s)) in (
       told .same ∙ inv .0,
       (λ s. told .stays (inv .1 s)),
