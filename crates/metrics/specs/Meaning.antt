@@ -1,6 +1,6 @@
 -- What a measurer means. A character is a number, 0 to 255 in the code; widths are in units of
 -- 1/1000 of the type size.
-use mathlib.Core.Bool.{Bool, true, false, cond}
+use mathlib.Core.Bool.{Bool, cond}
 use Prim.Native.Nat.{ℕ, _≤_}
 use Rattle.std.specs.declared.option.Option.{Option}
 use Rattle.std.specs.declared.result.Result.{Result}

@@ -1,8 +1,6 @@
 // Cells: every covered character has the same advance.
 ghost use mathlib.Core.Path.{_≡_};
-ghost use mathlib.Core.List.{[], _∷_};
-ghost use Prim.Native.Nat.{ℕ, _≤_};
-ghost use Rattle.metrics.specs.Meaning.{Meaning, answer};
+ghost use Prim.Native.Nat.{_≤_};
 ghost use Rattle.metrics.specs.Cells.{cells-meaning, CellSizes};
 ghost use Rattle.metrics.specs.Faults.{number};
 ghost use Rattle.std.specs.Results.{Cases};

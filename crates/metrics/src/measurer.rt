@@ -1,11 +1,18 @@
 // The interface of every measurer, with its meaning.
 ghost use mathlib.Core.Path.{_≡_};
-ghost use Prim.Native.Nat.{ℕ, _≤_};
 ghost use Rattle.metrics.specs.Meaning.{Meaning, Bounded, answer};
+ghost use Rattle.metrics.specs.Limits.{cut};
 use crate::fault::MissingGlyph;
 
 // The greatest advance that any measurer gives.
 pub const MAX_ADVANCE: u16 = 16_383;
+
+// A sum of advances and corrections, cut to what an advance can be.
+pub(crate) fn cut(sum: i32) -> u16
+    ensures { λ r. ⌜ r ≡ cut sum ⌝ }
+{
+    sum.clamp(0, i32::from(MAX_ADVANCE)) as u16
+}
 
 // Both questions leave the meaning as it is. What an implementation keeps beside its meaning, as a
 // cache its answers, is right as long as the measurer is sound; every constructor makes a sound one,
