@@ -1,15 +1,12 @@
 -- Labels worked out by hand. A row reads start, end, ending, width, reach.
-use mathlib.Core.Bool.{Bool, true, false, cond, _||_}
 use mathlib.Core.List.{List, [], _∷_}
 use mathlib.Core.Path.{_≡_}
 use Prim.Native.Nat.{ℕ}
 use lib.Chars.{codes}
-use lib.Dec.{eqb}
-use Rattle.std.specs.declared.option.Option.{Option}
-use Rattle.std.specs.declared.option.Option.the-variants.{Some, None}
 use Rattle.std.specs.declared.result.Result.the-variants.{Ok}
 use Rattle.metrics.specs.Cells.{cells-meaning}
 use Rattle.metrics.specs.Meaning.{Meaning}
+use Rattle.metrics.specs.Pile.{worked as kerned}
 use Rattle.page.specs.Policies.{Rules, spaces, anywhere}
 use Rattle.layout.specs.Settings.{setting-of}
 use Rattle.page.specs.declared.ending.Ending.{Ending}
@@ -33,17 +30,6 @@ label m P w t rs = record { meaning = m; rules = P; measure = w; text = t; rows 
 abbrev in-cells : Rules → ℕ → List ℕ → List Row → Case
 in-cells P w t rs = label (cells-meaning 500) P w t rs
 
--- space 100, a 600, b 1200, c 300, and b after a space takes 1200 back
-abbrev glyph-width : ℕ → ℕ
-glyph-width c = cond (eqb c 32) 100 (cond (eqb c 97) 600 (cond (eqb c 98) 1200 (cond (eqb c 99) 300 0)))
-
-abbrev kerned-advance : Option ℕ → ℕ → ℕ
-kerned-advance None c = glyph-width c
-kerned-advance (Some p) c = cond (eqb p 32) (cond (eqb c 98) 0 (glyph-width c)) (glyph-width c)
-
-abbrev kerned : Meaning
-kerned = record { covers = λ c. eqb c 32 || (eqb c 97 || (eqb c 98 || eqb c 99)); adv = kerned-advance; depth = λ _. 0 }
-
 abbrev pub worked : List Case
 worked =
     -- an empty text
@@ -62,7 +48,8 @@ worked =
     ∷ in-cells spaces 5000 (codes "the red ink") (row 0 8 Wrapped 3500 11 ∷ row 8 11 End 1500 12 ∷ [])
     -- the same where a row may end anywhere
     ∷ in-cells anywhere 5000 (codes "the red ink") (row 0 10 Wrapped 5000 11 ∷ row 10 11 End 500 12 ∷ [])
-    -- a kern counts only inside a row
+    -- space 100, a 600, b 1200, c 300, and b after a space drawn back by 1200: the kern counts only
+    -- inside a row
     ∷ label kerned spaces 1000 (codes "a bcc") (row 0 2 Wrapped 600 5 ∷ row 2 3 Cut 1200 4 ∷ row 3 5 End 600 6 ∷ [])
     ∷ []
 

@@ -1,9 +1,20 @@
 // The table of worked labels, run.
 use layout::setting::SetFaultDebug;
 use layout::setting::set_text;
+use metrics::cache::AdvanceCacheMeasurer;
 use metrics::cells::Cells;
 use metrics::cells::CellsMeasurer;
+use metrics::entry::Glyph;
+use metrics::entry::KernPair;
+use metrics::entry::Span;
+use metrics::fallback::FallbackMeasurer;
 use metrics::fault::OutOfRangeDebug;
+use metrics::font::Font;
+use metrics::font::FontMeasurer;
+use metrics::measurer::Measurer;
+use metrics::pile::pile;
+use metrics::tracking::TrackingMeasurer;
+use metrics::tracking::TrackingUnits;
 use page::ending::Ending;
 use page::measure::Measure;
 use page::measure::NoSuchMeasureDebug;
@@ -30,29 +41,46 @@ fn row(start: usize, end: usize, ending: Ending, width: u32, reach: usize) -> Ro
     }
 }
 
-// Sets `text` in cells of 500 and compares its rows.
-fn sets<P: Policy>(
+// Sets `text` and compares its rows.
+fn sets<M: Measurer, P: Policy>(
     heap: Global,
+    measurer: &mut M,
     policy: &P,
     measure: u32,
     text: &str,
     rows: &[Row],
 ) -> Result<(), Fail> {
     let chars = Text::new(text.as_bytes().to_vec(heap)?)?;
-    let mut cells = Cells::new(500)?;
-    let set = set_text(heap, &chars, &mut cells, policy, Measure::new(measure)?)?;
+    let set = set_text(heap, &chars, measurer, policy, Measure::new(measure)?)?;
     check_eq(set.as_slice(), rows)
+}
+
+fn glyph(code: u8, width: u16) -> Glyph {
+    Glyph {
+        name: Span { at: 0, len: 0 },
+        code: Some(code),
+        width,
+    }
 }
 
 #[test]
 fn worked_labels(rt: LibcRuntime) -> Result<(), Fail> {
     let heap = rt.alloc();
+    let mut cells = Cells::new(500)?;
     let end = Ending::End;
     let cut = Ending::Cut;
     let wrapped = Ending::Wrapped;
-    sets(heap, &Spaces, 5_000, "", &[row(0, 0, end, 0, 1)])?;
     sets(
         heap,
+        &mut cells,
+        &Spaces,
+        5_000,
+        "",
+        &[row(0, 0, end, 0, 1)],
+    )?;
+    sets(
+        heap,
+        &mut cells,
         &Spaces,
         5_000,
         "abcdefghij",
@@ -60,6 +88,7 @@ fn worked_labels(rt: LibcRuntime) -> Result<(), Fail> {
     )?;
     sets(
         heap,
+        &mut cells,
         &Spaces,
         5_000,
         "abcdefghijk",
@@ -67,6 +96,7 @@ fn worked_labels(rt: LibcRuntime) -> Result<(), Fail> {
     )?;
     sets(
         heap,
+        &mut cells,
         &Spaces,
         5_000,
         "abcdefghij  ",
@@ -74,6 +104,7 @@ fn worked_labels(rt: LibcRuntime) -> Result<(), Fail> {
     )?;
     sets(
         heap,
+        &mut cells,
         &Spaces,
         499,
         "ab",
@@ -81,6 +112,7 @@ fn worked_labels(rt: LibcRuntime) -> Result<(), Fail> {
     )?;
     sets(
         heap,
+        &mut cells,
         &Spaces,
         5_000,
         "\n",
@@ -88,6 +120,7 @@ fn worked_labels(rt: LibcRuntime) -> Result<(), Fail> {
     )?;
     sets(
         heap,
+        &mut cells,
         &Spaces,
         5_000,
         "the red ink",
@@ -95,9 +128,40 @@ fn worked_labels(rt: LibcRuntime) -> Result<(), Fail> {
     )?;
     sets(
         heap,
+        &mut cells,
         &Anywhere,
         5_000,
         "the red ink",
         &[row(0, 10, wrapped, 5_000, 11), row(10, 11, end, 500, 12)],
+    )
+}
+
+#[test]
+fn kerned_label(rt: LibcRuntime) -> Result<(), Fail> {
+    let heap = rt.alloc();
+    let glyphs = [
+        glyph(b' ', 100),
+        glyph(b'a', 600),
+        glyph(b'b', 1_200),
+        glyph(b'c', 300),
+    ];
+    let kerns = [KernPair {
+        first: b' ',
+        second: b'b',
+        kern: -1_200,
+    }];
+    let font = Font::new(heap, &glyphs, &kerns)?;
+    let mut measurer = pile(font, Cells::new(500)?, TrackingUnits::new(0)?);
+    sets(
+        heap,
+        &mut measurer,
+        &Spaces,
+        1_000,
+        "a bcc",
+        &[
+            row(0, 2, Ending::Wrapped, 600, 5),
+            row(2, 3, Ending::Cut, 1_200, 4),
+            row(3, 5, Ending::End, 600, 6),
+        ],
     )
 }

@@ -1,84 +1,53 @@
-// Sets a text in cells of 500, and shows its rows and the label.
+// Sets a text, and shows its rows and the label.
 use layout::row_list::RowList;
 use layout::setting::set_text;
+use metrics::cache::AdvanceCacheMeasurer;
 use metrics::cells::Cells;
 use metrics::cells::CellsMeasurer;
+use metrics::fallback::FallbackMeasurer;
+use metrics::font::FontMeasurer;
 use metrics::measurer::Measurer;
+use metrics::pile::pile;
+use metrics::tracking::TrackingMeasurer;
+use metrics::tracking::TrackingUnits;
 use page::measure::Measure;
+use page::policy::Anywhere;
+use page::policy::AnywherePolicy;
 use page::policy::Policy;
 use page::policy::Spaces;
 use page::policy::SpacesPolicy;
 use page::row::Row;
-use page::text::MAX_CHARACTERS;
 use page::text::Text;
-use preview::drawing::columns;
+use preview::drawing::Column;
 use preview::drawing::framed_row;
 use preview::drawing::unhung;
 use preview::lines::row_line;
 use preview::lines::rule_line;
 use preview::lines::spelt;
-use preview::words::Refusal;
-use preview::words::RefusalError;
-use preview::words::RefusalFromNoSuchMeasure;
-use preview::words::RefusalFromOutOfRange;
-use preview::words::RefusalFromSetFault;
-use preview::words::RefusalFromTooLong;
-use std::alloc::Global;
-use std::env;
-use std::error::AnyError;
+use program::fonts;
+use program::options::Breaks;
+use program::options::Options;
+use program::options::from_args;
+use program::options::input;
+use program::stop::Stop;
+use program::stop::StopDisplay;
+use program::stop::StopFromIo;
+use program::stop::StopFromNoSuchMeasure;
+use program::stop::StopFromOutOfRange;
+use program::stop::StopFromSetFault;
+use program::stop::StopFromTooLong;
 use std::io;
-use std::io::Read;
 
 const USAGE: &str = "\
-usage: label [MEASURE] < text
+usage: label [MEASURE [FONT.afm [TRACKING [spaces|anywhere]]]] < text
 
-Sets the text in cells of 500 at MEASURE, 1 to 60000 (5000 if none is given), and prints
-for each row its start, end, ending, width, reach and characters, and then the label.
+Sets the text at MEASURE, 1 to 60000 (5000 if none is given), and prints for each row its
+start, end, ending, width, reach and characters, and then the label.
 Endings: W wrapped, C cut, N newline, E end of the text.
-A text has at most 4096 characters, codes 32 to 126 and newlines, and at most 1024 rows.";
-
-// What is asked for on the command line.
-#[derive(Drop)]
-enum Request {
-    Help,
-    Label(u32),
-}
-
-fn request_of(rt: &LibcRuntime) -> Result<Request, AnyError> {
-    let mut args = env::args(rt)?.skip(1);
-    let Some(word) = args.next() else {
-        return Ok(Request::Label(5_000));
-    };
-    if args.next().is_some() {
-        return Err("at most one argument, the measure; --help says more".into());
-    }
-    if word.as_str() == "--help" {
-        return Ok(Request::Help);
-    }
-    match word.as_str().parse::<u64>() {
-        Ok(units) => Ok(Request::Label(u32::try_from(units).unwrap_or(u32::MAX))),
-        Err(_) => Err("the measure is no number; --help says more".into()),
-    }
-}
-
-// One character more than a text may have is enough to see that it is too long.
-fn input(rt: &LibcRuntime) -> io::Result<Vec<u8>> {
-    let mut bytes = Vec::new(rt.alloc());
-    rt.stdin()
-        .take(MAX_CHARACTERS as u64 + 1)
-        .read_to_end(&mut bytes)?;
-    Ok(bytes)
-}
-
-fn laid<M: Measurer, P: Policy>(
-    heap: Global,
-    text: &Text,
-    measurer: &mut M,
-    policy: &P,
-    measure: Measure,
-) -> Result<RowList, Refusal> {
-    Ok(set_text(heap, text, measurer, policy, measure)?)
-}
+Without a font the text is set in cells of 500, which cover the codes 32 to 126. With one,
+cells take only what the font does not cover, and TRACKING, -500 to 500, is added to each
+advance after another character. Rows end after spaces, or anywhere.
+A text has at most 4096 characters and 1024 rows.";
 
 fn list(rt: &LibcRuntime, text: &Text, rows: &[Row]) -> io::Result<()> {
     let heap = rt.alloc();
@@ -96,40 +65,74 @@ fn draw<M: Measurer, P: Policy>(
     measurer: &mut M,
     policy: &P,
     measure: Measure,
+    column: Column,
 ) -> io::Result<()> {
     let heap = rt.alloc();
-    let rule = rule_line(heap, columns(measure))?;
+    let rule = rule_line(heap, column.count(measure))?;
     rt.println(rule.as_str())?;
     for row in rows {
         let chars = unhung(policy, text.part(row.start, row.end));
-        rt.println(framed_row(heap, measurer, measure, row, chars)?)?;
+        rt.println(framed_row(heap, measurer, measure, column, row, chars)?)?;
     }
     rt.println(rule.as_str())
 }
 
-fn checked(units: u32, bytes: Vec<u8>) -> Result<(Measure, Text, Cells), Refusal> {
-    Ok((Measure::new(units)?, Text::new(bytes)?, Cells::new(500)?))
-}
-
-fn run(rt: &LibcRuntime) -> Result<(), AnyError> {
-    let units = match request_of(rt)? {
-        Request::Help => {
-            rt.println(USAGE)?;
-            return Ok(());
-        }
-        Request::Label(units) => units,
-    };
-    let (measure, text, mut cells) = checked(units, input(rt)?)?;
-    let rows = laid(rt.alloc(), &text, &mut cells, &Spaces, measure)?;
-    list(rt, &text, rows.as_slice())?;
-    draw(rt, &text, rows.as_slice(), &mut cells, &Spaces, measure)?;
+fn show<M: Measurer, P: Policy>(
+    rt: &LibcRuntime,
+    text: &Text,
+    measurer: &mut M,
+    policy: &P,
+    measure: Measure,
+    column: Column,
+) -> Result<(), Stop> {
+    let rows: RowList = set_text(rt.alloc(), text, measurer, policy, measure)?;
+    list(rt, text, rows.as_slice())?;
+    draw(rt, text, rows.as_slice(), measurer, policy, measure, column)?;
     Ok(())
 }
 
-fn main(rt: LibcRuntime) -> Result<(), AnyError> {
+fn show_by<M: Measurer>(
+    rt: &LibcRuntime,
+    text: &Text,
+    measurer: &mut M,
+    breaks: Breaks,
+    measure: Measure,
+    column: Column,
+) -> Result<(), Stop> {
+    match breaks {
+        Breaks::Spaces => show(rt, text, measurer, &Spaces, measure, column),
+        Breaks::Anywhere => show(rt, text, measurer, &Anywhere, measure, column),
+    }
+}
+
+fn run(rt: &LibcRuntime) -> Result<(), Stop> {
+    let Some(options) = from_args(rt)? else {
+        rt.println(USAGE)?;
+        return Ok(());
+    };
+    let Options {
+        measure,
+        font,
+        tracking,
+        breaks,
+    } = options;
+    let measure = Measure::new(measure)?;
+    let units = TrackingUnits::new(tracking)?;
+    let mut cells = Cells::new(500)?;
+    let Some(path) = font else {
+        let text = Text::new(input(rt)?)?;
+        return show_by(rt, &text, &mut cells, breaks, measure, Column::Cell);
+    };
+    let mut measurer = pile(fonts::load(rt, path.as_str())?, cells, units);
+    let text = Text::new(input(rt)?)?;
+    show_by(rt, &text, &mut measurer, breaks, measure, Column::HalfCell)
+}
+
+fn main(rt: LibcRuntime) -> Result<(), Stop> {
     let outcome = run(&rt);
-    if let Err(e) = &outcome {
-        eprintln!(rt, "label: {e}")?;
+    if let Err(stop) = &outcome {
+        let who = stop.prefix("label: ");
+        eprintln!(rt, "{who}{stop}")?;
     }
     outcome
 }

@@ -7,11 +7,26 @@ use std::alloc::AllocError;
 use std::alloc::Global;
 
 // How many units a column of the drawing stands for.
-pub const COLUMN: usize = 500;
+#[derive(Clone, Copy)]
+pub enum Column {
+    // a cell of 500
+    Cell,
+    // half of it, for the narrow letters of a font
+    HalfCell,
+}
 
-// How many columns the measure takes, the last one perhaps in part.
-pub fn columns(measure: Measure) -> usize {
-    (measure.units() as usize).div_ceil(COLUMN)
+impl Column {
+    fn units(self) -> usize {
+        match self {
+            Column::Cell => 500,
+            Column::HalfCell => 250,
+        }
+    }
+
+    // How many columns the measure takes, the last one perhaps in part.
+    pub fn count(self, measure: Measure) -> usize {
+        (measure.units() as usize).div_ceil(self.units().max(1))
+    }
 }
 
 // The row's characters without those that hang at its end.
@@ -29,6 +44,7 @@ pub fn framed_row<M: Measurer>(
     heap: Global,
     measurer: &mut M,
     measure: Measure,
+    column: Column,
     row: &Row,
     chars: &[u8],
 ) -> Result<String, AllocError> {
@@ -37,15 +53,15 @@ pub fn framed_row<M: Measurer>(
     let mut before = None;
     let mut used = 0;
     for c in chars {
-        let column = edge / COLUMN;
-        pad(&mut line, column.saturating_sub(used))?;
+        let place = edge / column.units().max(1);
+        pad(&mut line, place.saturating_sub(used))?;
         line.push(char::from(*c))?;
-        used = used.max(column).saturating_add(1);
+        used = used.max(place).saturating_add(1);
         let advance = measurer.advance(before, *c).unwrap_or(0);
         edge = edge.saturating_add(usize::from(advance));
         before = Some(*c);
     }
-    pad(&mut line, columns(measure).saturating_sub(used))?;
+    pad(&mut line, column.count(measure).saturating_sub(used))?;
     line.push('|')?;
     if row.width > measure.units() {
         line.push_str(" < wider than the label")?;

@@ -1,0 +1,6 @@
+mod Acts
+mod Firsts
+mod Numerals
+mod Runs
+mod Scans
+mod Turns

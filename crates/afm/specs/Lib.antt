@@ -1,0 +1,12 @@
+pub mod Entries
+pub mod Faults
+pub mod Fields
+pub mod Keywords
+pub mod Kinds
+pub mod Lines
+pub mod Lookups
+pub mod Numbers
+pub mod Parts
+pub mod Reading
+pub mod Sections
+pub mod Steps
