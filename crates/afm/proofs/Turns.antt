@@ -8,7 +8,7 @@ use denote.Ref.{now}
 use lib.ListN.{length}
 use Rattle.std.specs.declared.result.Result.{Result}
 use Rattle.std.specs.declared.result.Result.the-variants.{Ok, Err}
-use Rattle.lists.specs.Roll.{roll}
+use Rattle.lists.specs.Holding.{holding}
 use Rattle.lists.specs.declared.bounded.BoundedList.{BoundedList}
 use Rattle.metrics.specs.declared.entry.Glyph.{Glyph}
 use Rattle.metrics.specs.declared.entry.KernPair.{KernPair}
@@ -38,12 +38,12 @@ module _ {file : List ℕ} {r s t : Reader} {g h : BoundedList Glyph} {k m : Bou
   step : line-step (now (s .file)) (progress s g k) l ≡ line-step file (progress r g k) l
   step =
       ap (λ f. line-step f (progress s g k) l) (x .kept ∙ x .same)
-      ∙ ap (λ (a : Standing). line-step file (record { at = a; glyphs = roll g; kerns = roll k }) l) (x .stays)
+      ∙ ap (λ (a : Standing). line-step file (record { at = a; glyphs = holding g; kerns = holding k }) l) (x .stays)
 
   went : progress t h m ≡ after (progress r g k) (line-step file (progress r g k) l)
   went =
       x .moved ∙ ap (after (progress s g k)) step
-      ∙ ap (λ (a : Standing). after (record { at = a; glyphs = roll g; kerns = roll k }) (line-step file (progress r g k) l)) (x .stays)
+      ∙ ap (λ (a : Standing). after (record { at = a; glyphs = holding g; kerns = holding k }) (line-step file (progress r g k) l)) (x .stays)
 
   pub turn-again : Ok tt ≡ answer (line-step (now (s .file)) (progress s g k) l) → read-lines file (progress t h m) (t .line + 1) (lines (rest t)) ≡ read-lines file (progress r g k) (r .line + 1) (lines (rest r))
   turn-again ok =

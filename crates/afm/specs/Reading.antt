@@ -4,7 +4,7 @@ use mathlib.Core.List.{List, [], _∷_}
 use Prim.Native.Nat.{ℕ, _+_}
 use Rattle.std.specs.declared.result.Result.{Result}
 use Rattle.std.specs.declared.result.Result.the-variants.{Ok, Err}
-use Rattle.lists.specs.Roll.{Roll}
+use Rattle.lists.specs.Holding.{Holding}
 use Rattle.metrics.specs.declared.entry.Glyph.{Glyph}
 use Rattle.metrics.specs.declared.entry.KernPair.{KernPair}
 use Rattle.afm.specs.Lines.{rest-of, lines}
@@ -17,8 +17,8 @@ use Rattle.afm.specs.declared.section.Section.the-variants.{Start, Head, Glyph
 
 -- both lists afterwards, and the answer
 pub record Outcome : Type 0 where
-  pub glyphs : Roll Glyph
-  pub kerns : Roll KernPair
+  pub glyphs : Holding Glyph
+  pub kerns : Holding KernPair
   pub answer : Result (Unit {0}) AfmFault
 
 abbrev pub outcome : Progress → Result (Unit {0}) AfmFault → Outcome
@@ -43,5 +43,5 @@ read-lines file p n (line ∷ more) =
 abbrev pub start : Standing
 start = record { section = Start; announced = 0; seen = 0 }
 
-unfoldable pub read-font : List ℕ → Roll Glyph → Roll KernPair → Outcome
+unfoldable pub read-font : List ℕ → Holding Glyph → Holding KernPair → Outcome
 read-font file glyphs kerns = read-lines file (record { at = start; glyphs = glyphs; kerns = kerns }) 1 (lines (rest-of file 0))

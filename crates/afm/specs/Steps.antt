@@ -10,7 +10,7 @@ use Rattle.std.specs.declared.option.Option.{Option}
 use Rattle.std.specs.declared.option.Option.the-variants.{Some, None}
 use Rattle.std.specs.declared.result.Result.{Result}
 use Rattle.std.specs.declared.result.Result.the-variants.{Ok, Err}
-use Rattle.lists.specs.Roll.{Roll, roll, entries, has-room, pushed}
+use Rattle.lists.specs.Holding.{Holding, holding, entries, has-room, pushed}
 use Rattle.lists.specs.declared.bounded.BoundedList.{BoundedList}
 use Rattle.metrics.specs.declared.entry.Glyph.{Glyph}
 use Rattle.metrics.specs.declared.entry.KernPair.{KernPair}
@@ -37,7 +37,7 @@ answer (Ok y) = Ok tt
 answer (Err e) = Err e
 
 -- a new entry, if a slot is left
-abbrev pub kept : {X : Type 0} → Roll X → X → Result (Roll X) LineFault
+abbrev pub kept : {X : Type 0} → Holding X → X → Result (Holding X) LineFault
 kept r entry = cond (has-room r) (Ok (pushed r entry)) (Err (NoSlot (record {})))
 
 -- ---- glyphs
@@ -57,11 +57,11 @@ fresh-glyph file glyphs (Some g) = cond (glyph-given file g glyphs) (Err Again) 
 unfoldable pub new-glyph : List ℕ → List Glyph → Part → Result Glyph LineFault
 new-glyph file glyphs line = fresh-glyph file glyphs (glyph-of line)
 
-abbrev pub glyph-kept : Roll Glyph → Result Glyph LineFault → Result (Roll Glyph) LineFault
+abbrev pub glyph-kept : Holding Glyph → Result Glyph LineFault → Result (Holding Glyph) LineFault
 glyph-kept r (Ok g) = kept r g
 glyph-kept r (Err e) = Err e
 
-abbrev pub take-glyph : List ℕ → Roll Glyph → Part → Result (Roll Glyph) LineFault
+abbrev pub take-glyph : List ℕ → Holding Glyph → Part → Result (Holding Glyph) LineFault
 take-glyph file r line = glyph-kept r (new-glyph file (entries r) line)
 
 -- ---- pairs
@@ -84,12 +84,12 @@ fresh-pair file glyphs kerns (Some p) = fresh-names kerns (named file (p .first 
 unfoldable pub new-pair : List ℕ → List Glyph → List KernPair → Part → Result (Option KernPair) LineFault
 new-pair file glyphs kerns line = fresh-pair file glyphs kerns (pair-of line)
 
-abbrev pub pair-kept : Roll KernPair → Result (Option KernPair) LineFault → Result (Roll KernPair) LineFault
+abbrev pub pair-kept : Holding KernPair → Result (Option KernPair) LineFault → Result (Holding KernPair) LineFault
 pair-kept r (Ok None) = Ok r
 pair-kept r (Ok (Some new)) = kept r new
 pair-kept r (Err e) = Err e
 
-abbrev pub take-pair : List ℕ → List Glyph → Roll KernPair → Part → Result (Roll KernPair) LineFault
+abbrev pub take-pair : List ℕ → List Glyph → Holding KernPair → Part → Result (Holding KernPair) LineFault
 take-pair file glyphs r line = pair-kept r (new-pair file glyphs (entries r) line)
 
 -- ---- sections
@@ -141,21 +141,21 @@ close-section section s = cond (eqb (s .seen) (s .announced)) (Ok (enter section
 -- what is read so far
 pub record Progress : Type 0 where
   pub at : Standing
-  pub glyphs : Roll Glyph
-  pub kerns : Roll KernPair
+  pub glyphs : Holding Glyph
+  pub kerns : Holding KernPair
 
 abbrev pub progress : Reader → BoundedList Glyph → BoundedList KernPair → Progress
-progress r glyphs kerns = record { at = standing r; glyphs = roll glyphs; kerns = roll kerns }
+progress r glyphs kerns = record { at = standing r; glyphs = holding glyphs; kerns = holding kerns }
 
 abbrev pub with-standing : Progress → Result Standing LineFault → Result Progress LineFault
 with-standing p (Ok s) = Ok (record { at = s; glyphs = p .glyphs; kerns = p .kerns })
 with-standing p (Err e) = Err e
 
-abbrev pub with-glyphs : Progress → Result (Roll Glyph) LineFault → Result Progress LineFault
+abbrev pub with-glyphs : Progress → Result (Holding Glyph) LineFault → Result Progress LineFault
 with-glyphs p (Ok r) = Ok (record { at = see (p .at); glyphs = r; kerns = p .kerns })
 with-glyphs p (Err e) = Err e
 
-abbrev pub with-kerns : Progress → Result (Roll KernPair) LineFault → Result Progress LineFault
+abbrev pub with-kerns : Progress → Result (Holding KernPair) LineFault → Result Progress LineFault
 with-kerns p (Ok r) = Ok (record { at = see (p .at); glyphs = p .glyphs; kerns = r })
 with-kerns p (Err e) = Err e
 

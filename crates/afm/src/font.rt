@@ -1,7 +1,7 @@
 // The whole file.
 ghost use mathlib.Core.Path.{_≡_};
 ghost use denote.Ref.{name};
-ghost use Rattle.lists.specs.Roll.{roll};
+ghost use Rattle.lists.specs.Holding.{holding};
 ghost use Rattle.afm.specs.Reading.{read-font};
 use crate::fault::AfmFault;
 use crate::reader::Reader;
@@ -17,9 +17,9 @@ pub fn read_font(
 ) -> Result<(), AfmFault>
     ensures glyph_lender { λ _. ⌜ name (now (glyphs .exit) .slots) ≡ name (now (glyphs .entry) .slots) ⌝ }
     ensures kern_lender { λ _. ⌜ name (now (kerns .exit) .slots) ≡ name (now (kerns .entry) .slots) ⌝ }
-    ensures glyphs { λ _. ⌜ roll (now (glyphs .exit)) ≡ read-font (now (file .entry)) (roll (now (glyphs .entry))) (roll (now (kerns .entry))) .glyphs ⌝ }
-    ensures kerns { λ _. ⌜ roll (now (kerns .exit)) ≡ read-font (now (file .entry)) (roll (now (glyphs .entry))) (roll (now (kerns .entry))) .kerns ⌝ }
-    ensures answer { λ r. ⌜ r ≡ read-font (now (file .entry)) (roll (now (glyphs .entry))) (roll (now (kerns .entry))) .answer ⌝ }
+    ensures glyphs { λ _. ⌜ holding (now (glyphs .exit)) ≡ read-font (now (file .entry)) (holding (now (glyphs .entry))) (holding (now (kerns .entry))) .glyphs ⌝ }
+    ensures kerns { λ _. ⌜ holding (now (kerns .exit)) ≡ read-font (now (file .entry)) (holding (now (glyphs .entry))) (holding (now (kerns .entry))) .kerns ⌝ }
+    ensures answer { λ r. ⌜ r ≡ read-font (now (file .entry)) (holding (now (glyphs .entry))) (holding (now (kerns .entry))) .answer ⌝ }
 {
     let mut reader = Reader::new(file);
     'lines: while !reader.has_ended() {

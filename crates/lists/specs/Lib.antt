@@ -1,1 +1,1 @@
-pub mod Roll
+pub mod Holding

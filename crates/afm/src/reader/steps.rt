@@ -2,7 +2,7 @@
 ghost use mathlib.Core.Path.{_≡_};
 ghost use Prim.Native.Nat.{_<_};
 ghost use denote.Ref.{name};
-ghost use Rattle.lists.specs.Roll.{roll};
+ghost use Rattle.lists.specs.Holding.{holding};
 ghost use Rattle.afm.specs.Parts.{line as part};
 ghost use Rattle.afm.specs.Steps.{after, answer, act, line-step, place, progress, standing, see-after, open-section, close-section, take-glyph, take-pair, kept};
 use super::Reader;
@@ -52,9 +52,9 @@ impl<'a> Reader<'a> {
         requires { ⌜ now self .seen < now self .line ⌝ }
         ensures lender { λ _. ⌜ name (now (glyphs .exit) .slots) ≡ name (now (glyphs .entry) .slots) ⌝ }
         ensures place { λ _. ⌜ place (now (self .exit)) ≡ place (now (self .entry)) ⌝ }
-        ensures standing { λ _. ⌜ standing (now (self .exit)) ≡ see-after (standing (now (self .entry))) (take-glyph (now (now (self .entry) .file)) (roll (now (glyphs .entry))) (part (line .entry))) ⌝ }
-        ensures after { λ _. ⌜ roll (now (glyphs .exit)) ≡ after (roll (now (glyphs .entry))) (take-glyph (now (now (self .entry) .file)) (roll (now (glyphs .entry))) (part (line .entry))) ⌝ }
-        ensures answer { λ r. ⌜ r ≡ answer (take-glyph (now (now (self .entry) .file)) (roll (now (glyphs .entry))) (part (line .entry))) ⌝ }
+        ensures standing { λ _. ⌜ standing (now (self .exit)) ≡ see-after (standing (now (self .entry))) (take-glyph (now (now (self .entry) .file)) (holding (now (glyphs .entry))) (part (line .entry))) ⌝ }
+        ensures after { λ _. ⌜ holding (now (glyphs .exit)) ≡ after (holding (now (glyphs .entry))) (take-glyph (now (now (self .entry) .file)) (holding (now (glyphs .entry))) (part (line .entry))) ⌝ }
+        ensures answer { λ r. ⌜ r ≡ answer (take-glyph (now (now (self .entry) .file)) (holding (now (glyphs .entry))) (part (line .entry))) ⌝ }
     {
         let glyph = self.new_glyph(line, glyphs.as_slice())?;
         keep(glyphs, glyph)?;
@@ -71,9 +71,9 @@ impl<'a> Reader<'a> {
         requires { ⌜ now self .seen < now self .line ⌝ }
         ensures lender { λ _. ⌜ name (now (kerns .exit) .slots) ≡ name (now (kerns .entry) .slots) ⌝ }
         ensures place { λ _. ⌜ place (now (self .exit)) ≡ place (now (self .entry)) ⌝ }
-        ensures standing { λ _. ⌜ standing (now (self .exit)) ≡ see-after (standing (now (self .entry))) (take-pair (now (now (self .entry) .file)) (now (glyphs .entry)) (roll (now (kerns .entry))) (part (line .entry))) ⌝ }
-        ensures after { λ _. ⌜ roll (now (kerns .exit)) ≡ after (roll (now (kerns .entry))) (take-pair (now (now (self .entry) .file)) (now (glyphs .entry)) (roll (now (kerns .entry))) (part (line .entry))) ⌝ }
-        ensures answer { λ r. ⌜ r ≡ answer (take-pair (now (now (self .entry) .file)) (now (glyphs .entry)) (roll (now (kerns .entry))) (part (line .entry))) ⌝ }
+        ensures standing { λ _. ⌜ standing (now (self .exit)) ≡ see-after (standing (now (self .entry))) (take-pair (now (now (self .entry) .file)) (now (glyphs .entry)) (holding (now (kerns .entry))) (part (line .entry))) ⌝ }
+        ensures after { λ _. ⌜ holding (now (kerns .exit)) ≡ after (holding (now (kerns .entry))) (take-pair (now (now (self .entry) .file)) (now (glyphs .entry)) (holding (now (kerns .entry))) (part (line .entry))) ⌝ }
+        ensures answer { λ r. ⌜ r ≡ answer (take-pair (now (now (self .entry) .file)) (now (glyphs .entry)) (holding (now (kerns .entry))) (part (line .entry))) ⌝ }
     {
         if let Some(pair) = self.new_pair(line, glyphs, kerns.as_slice())? {
             keep(kerns, pair)?;
@@ -134,8 +134,8 @@ impl<'a> Reader<'a> {
 
 fn keep<T: Copy>(list: &mut BoundedList<'_, T>, entry: T) -> Result<(), LineFault>
     ensures lender { λ _. ⌜ name (now (list .exit) .slots) ≡ name (now (list .entry) .slots) ⌝ }
-    ensures after { λ _. ⌜ roll (now (list .exit)) ≡ after (roll (now (list .entry))) (kept (roll (now (list .entry))) entry) ⌝ }
-    ensures answer { λ r. ⌜ r ≡ answer (kept (roll (now (list .entry))) entry) ⌝ }
+    ensures after { λ _. ⌜ holding (now (list .exit)) ≡ after (holding (now (list .entry))) (kept (holding (now (list .entry))) entry) ⌝ }
+    ensures answer { λ r. ⌜ r ≡ answer (kept (holding (now (list .entry))) entry) ⌝ }
 {
     list.push(entry)?;
     Ok(())

@@ -5,7 +5,7 @@ use native.Mathlib.Omega.{arith}
 use lib.ListN.{length}
 use Rattle.std.proofs.shelf.Tests.{eqb-true, eqb-false}
 use Rattle.std.specs.declared.result.Result.the-variants.{Err}
-use Rattle.lists.specs.Roll.{roll}
+use Rattle.lists.specs.Holding.{holding}
 use Rattle.afm.proofs.Runs.{read-ended, read-over}
 use Rattle.afm.proofs.Turns.{Turn, turn-again, turn-refused, turn-file, turn-less}
 use Rattle.afm.specs.Lines.{rest-of, lines}
@@ -19,7 +19,7 @@ pub lines-holds : need.lines-holds
 unfolding read-font
 lines-holds c = (
   ap (λ (q : Place). read-lines (c .args .file .now) (progress (c .new-reader .result) (c .args .glyphs .now) (c .args .kerns .now)) (q .line + 1) (lines (rest-of (q .file) (q .at)))) (c .new-reader .ensures .place)
-      ∙ ap (λ (a : Standing). read-lines (c .args .file .now) (record { at = a; glyphs = roll (c .args .glyphs .now); kerns = roll (c .args .kerns .now) }) 1 (lines (rest-of (c .args .file .now) 0))) (c .new-reader .ensures .standing),
+      ∙ ap (λ (a : Standing). read-lines (c .args .file .now) (record { at = a; glyphs = holding (c .args .glyphs .now); kerns = holding (c .args .kerns .now) }) 1 (lines (rest-of (c .args .file .now) 0))) (c .new-reader .ensures .standing),
   ap (λ (q : Place). q .file) (c .new-reader .ensures .place),
   refl,
   refl,

@@ -10,26 +10,26 @@ use Rattle.std.specs.declared.result.Result.the-variants.{Ok, Err}
 use Rattle.lists.specs.declared.bounded.BoundedList.{BoundedList}
 use Rattle.lists.specs.declared.full.Full.{Full}
 
-pub record Roll (X : Type 0) : Type 0 where
+pub record Holding (X : Type 0) : Type 0 where
   pub slots : List X
   pub used : ℕ
 
-abbrev pub roll : {X : Type 0} → BoundedList X → Roll X
-roll list = record { slots = now (list .slots); used = list .used }
+abbrev pub holding : {X : Type 0} → BoundedList X → Holding X
+holding list = record { slots = now (list .slots); used = list .used }
 
-abbrev pub empty : {X : Type 0} → List X → Roll X
+abbrev pub empty : {X : Type 0} → List X → Holding X
 empty slots = record { slots = slots; used = 0 }
 
 -- the entries, oldest first
-abbrev pub entries : {X : Type 0} → Roll X → List X
+abbrev pub entries : {X : Type 0} → Holding X → List X
 entries r = take (r .used) (r .slots)
 
-abbrev pub has-room : {X : Type 0} → Roll X → Bool
+abbrev pub has-room : {X : Type 0} → Holding X → Bool
 has-room r = ltb (r .used) (length (r .slots))
 
 -- one entry more, if a slot is left
-abbrev pub pushed : {X : Type 0} → Roll X → X → Roll X
+abbrev pub pushed : {X : Type 0} → Holding X → X → Holding X
 pushed r entry = cond (has-room r) (record { slots = set (r .slots) (r .used) entry; used = r .used + 1 }) r
 
-abbrev pub push-answer : {X : Type 0} → Roll X → Result (Unit {0}) Full
+abbrev pub push-answer : {X : Type 0} → Holding X → Result (Unit {0}) Full
 push-answer r = cond (has-room r) (Ok tt) (Err (record {}))
