@@ -22,12 +22,7 @@ pub struct EditedText<'t, 'i> {
 }
 
 impl<'t, 'i> EditedText<'t, 'i> {
-    pub fn new(
-        text: &'t GapBuffer,
-        at: usize,
-        del: usize,
-        ins: &'i [u8],
-    ) -> EditedText<'t, 'i>
+    pub fn new(text: &'t GapBuffer, at: usize, del: usize, ins: &'i [u8]) -> EditedText<'t, 'i>
         requires within { ⌜ at + del ≤ length (held (now text)) ⌝ }
         requires few { ⌜ length (held (now text)) - del + length (now ins) ≤ most-characters ⌝ }
         ensures { λ r. ⌜ edited (held (now (r .text))) (r .at) (r .del) (now (r .ins)) ≡ edited (held (now (text .entry))) at del (now (ins .entry)) ⌝ }

@@ -1,0 +1,14 @@
+pub mod Reaching
+pub mod RowLists
+pub mod AllRows
+pub mod EditedTexts
+pub mod EditTheorems
+pub mod ScreenParts
+pub mod ScreenFront
+pub mod ScreenBack
+pub mod ScreenTheorem
+pub mod Carried
+pub mod Fronts
+pub mod Meetings
+pub mod RelaySteps
+pub mod ReflowTheorems

@@ -1,0 +1,5 @@
+pub mod Edits
+pub mod Relaying
+pub mod Repaints
+pub mod Screens
+pub mod Theorems
