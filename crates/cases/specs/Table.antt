@@ -1,14 +1,20 @@
 -- Labels worked out by hand. A row reads start, end, ending, width, reach.
+use mathlib.Core.Bool.{false}
 use mathlib.Core.List.{List, [], _∷_}
 use mathlib.Core.Path.{_≡_}
 use Prim.Native.Nat.{ℕ}
 use lib.Chars.{codes}
+use lib.ListN.{length, replicate}
 use Rattle.std.specs.declared.result.Result.the-variants.{Ok}
 use Rattle.metrics.specs.Cells.{cells-meaning}
 use Rattle.metrics.specs.Meaning.{Meaning}
 use Rattle.metrics.specs.Pile.{worked as kerned}
 use Rattle.page.specs.Policies.{Rules, spaces, anywhere}
+use Rattle.page.specs.Texts.{edited}
 use Rattle.layout.specs.Settings.{setting-of}
+use Rattle.reflow.specs.Edits.{rows-of}
+use Rattle.reflow.specs.Repaints.{repaint-of}
+use Rattle.reflow.specs.declared.repaint.Repaint.{Repaint}
 use Rattle.page.specs.declared.ending.Ending.{Ending}
 use Rattle.page.specs.declared.ending.Ending.the-variants.{Wrapped, Cut, Newline, End}
 use Rattle.page.specs.declared.row.Row.{Row}
@@ -60,3 +66,70 @@ Holds c = setting-of (c .meaning) (c .rules) (c .measure) (c .text) ≡ Ok (c .r
 abbrev pub All-hold : List Case → Type 0
 All-hold [] = Unit {0}
 All-hold (c ∷ cs) = Holds c × All-hold cs
+
+-- An edit of a label: the rows that it has then, and the record of what to repaint.
+pub record EditCase : Type 0 where
+  pub before : Case
+  pub at : ℕ
+  pub del : ℕ
+  pub ins : List ℕ
+  pub after : List Row
+  pub repaint : Repaint
+
+abbrev record-of : ℕ → ℕ → ℕ → ℕ → Repaint
+record-of from removed put broken = record { whole = false; from = from; removed = removed; put = put; broken = broken }
+
+abbrev pub edits : List EditCase
+edits =
+    -- deleting the last c lets the kern pull three rows into one
+    record {
+      before = label kerned spaces 1000 (codes "a bcc") (row 0 2 Wrapped 600 5 ∷ row 2 3 Cut 1200 4 ∷ row 3 5 End 600 6 ∷ []);
+      at = 4;
+      del = 1;
+      ins = [];
+      after = row 0 4 End 1000 5 ∷ [];
+      repaint = record-of 0 3 1 1;
+    }
+    -- the first text of a label
+    ∷ record {
+      before = in-cells spaces 5000 [] (row 0 0 End 0 1 ∷ []);
+      at = 0;
+      del = 0;
+      ins = codes "the red ink";
+      after = row 0 8 Wrapped 3500 11 ∷ row 8 11 End 1500 12 ∷ [];
+      repaint = record-of 0 1 2 2;
+    }
+    -- two rows become one
+    ∷ record {
+      before = in-cells spaces 4000 (codes "the red ink") (row 0 8 Wrapped 3500 9 ∷ row 8 11 End 1500 12 ∷ []);
+      at = 4;
+      del = 4;
+      ins = [];
+      after = row 0 7 End 3500 8 ∷ [];
+      repaint = record-of 0 2 1 1;
+    }
+    -- a row put in front leaves the other alone
+    ∷ record {
+      before = in-cells spaces 4000 (codes "the ink") (row 0 7 End 3500 8 ∷ []);
+      at = 0;
+      del = 0;
+      ins = 97 ∷ 10 ∷ [];
+      after = row 0 1 Newline 500 2 ∷ row 2 9 End 3500 10 ∷ [];
+      repaint = record-of 0 0 1 1;
+    }
+    ∷ []
+
+-- before, after and the record are as the table says
+pub record Edit-holds (c : EditCase) : Type 0 where
+  pub old : rows-of (c .before .meaning) (c .before .rules) (c .before .measure) (c .before .text) ≡ c .before .rows
+  pub new : rows-of (c .before .meaning) (c .before .rules) (c .before .measure) (edited (c .before .text) (c .at) (c .del) (c .ins)) ≡ c .after
+  pub painted : repaint-of (record { at = c .at; del = c .del; ins = length (c .ins) }) (c .before .rows) (c .after) ≡ c .repaint
+
+abbrev pub Edits-hold : List EditCase → Type 0
+Edits-hold [] = Unit {0}
+Edits-hold (c ∷ cs) = Edit-holds c × Edits-hold cs
+
+-- 1,023 newlines make as many rows as a layout may have, and 1,024 one too many
+pub record Newlines : Type 0 where
+  pub fit : length (rows-of (cells-meaning 500) spaces 5000 (replicate 1023 10)) ≡ 1024
+  pub over : length (rows-of (cells-meaning 500) spaces 5000 (replicate 1024 10)) ≡ 1025

@@ -44,7 +44,7 @@ starts-where (r ∷ rs) s e = elim (or-cases (eqb (r .start) s) (starts-at rs s)
 ]
 
 module _ (m : Meaning) (P : Rules) (w : ℕ) (t : List ℕ) where
-  row-upto : (s : ℕ) (r : Row) → RowFrom m P w t s r → r .start ≤ r .end
+  pub row-upto : (s : ℕ) (r : Row) → RowFrom m P w t s r → r .start ≤ r .end
   row-upto s r (whole q z f p) = rw p (z .from)
   row-upto s r (wrapped q o e z v b p) = rw p (omega (arith, b .after))
   row-upto s r (cut q o z v h x p) = rw p (omega arith)

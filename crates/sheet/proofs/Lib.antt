@@ -1,0 +1,4 @@
+pub mod Continuing
+pub mod Replacing
+pub mod Remeasuring
+pub mod Showing
