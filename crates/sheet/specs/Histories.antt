@@ -1,4 +1,4 @@
--- What came of a sheet's calls, call by call.
+-- What came of a sheet's calls, call by call. The worked sheet is the one in the code, beside the clean one.
 use mathlib.Core.List.{List, [], _∷_, _++_}
 use mathlib.Core.Path.{_≡_}
 use Prim.Native.Nat.{ℕ, _≤_}
