@@ -1,4 +1,6 @@
 // The reader of Adobe Font Metrics files.
+#![tactic(auto)]
+
 mod entry_line;
 pub mod fault;
 mod field;

@@ -1,4 +1,6 @@
 // Labels worked out by hand: one table, proved over the definitions and run as a test.
+#![tactic(auto)]
+
 ghost use Rattle.std.specs.Prelude.{◌≡◌, length};
 ghost use Rattle.page.specs.Texts.{most_characters};
 ghost use Rattle.cases.specs.Table.{worked, AllHold, edits, EditsHold, Newlines, Limits, Script};

@@ -1,4 +1,6 @@
 // Sets a text, and shows its rows and the label.
+#![tactic(auto)]
+
 use fonts::pile::pile;
 use layers::tracking::TrackingUnits;
 use layout::edges::write_edges;

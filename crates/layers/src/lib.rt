@@ -1,4 +1,6 @@
 // Layers over measurers: tracking, fallback, and the advance cache.
+#![tactic(auto)]
+
 pub mod cache;
 pub mod fallback;
 pub mod tracking;

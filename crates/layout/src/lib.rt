@@ -1,4 +1,6 @@
 // Rows by first fit: how one is broken, and how a whole text is laid.
+#![tactic(auto)]
+
 pub mod breaking;
 pub mod cover;
 pub mod edges;

@@ -1,4 +1,6 @@
 // A list that grows in slots its user lends.
+#![tactic(auto)]
+
 pub mod bounded;
 pub mod full;
 #[cfg(test)]

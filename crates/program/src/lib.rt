@@ -1,4 +1,6 @@
 // What the programs share: their options, their input, their fonts, and how they stop.
+#![tactic(auto)]
+
 pub mod font_file;
 pub mod options;
 pub mod stop;

@@ -1,4 +1,6 @@
 // Runs a script on a sheet, and prints its list.
+#![tactic(auto)]
+
 use fonts::pile::pile;
 use layers::tracking::TrackingUnits;
 use listing::writer::ListWriter;

@@ -1,4 +1,6 @@
 // Runs scripts on sheets, and writes their lists.
+#![tactic(auto)]
+
 mod carrying;
 pub mod entering;
 pub mod fault;

@@ -1,4 +1,6 @@
 // Scripts: sequences of calls of a sheet, in plain bytes.
+#![tactic(auto)]
+
 pub mod command;
 pub mod fault;
 pub mod lines;

@@ -1,4 +1,6 @@
 // Sheets, tried on edits that were worked out by hand.
+#![tactic(auto)]
+
 use metrics::measurer::Measurer;
 use page::policy::Policy;
 use reflow::repaint::Repaint;

@@ -1,4 +1,6 @@
 // Runs many cases, one after another, and prints what came of each.
+#![tactic(auto)]
+
 use std::io::Read;
 
 mod calls;

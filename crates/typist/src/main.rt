@@ -1,4 +1,6 @@
 // Types a text into a sheet, and shows its rows, what they cost, and the screen.
+#![tactic(auto)]
+
 use fonts::pile::pile;
 use layers::tracking::TrackingUnits;
 use metrics::cells::Cells;
