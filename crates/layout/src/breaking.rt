@@ -23,12 +23,12 @@ pub fn break_row<T: Characters, M: Measurer, P: Policy>(
     start: usize,
     tally: &mut u64,
 ) -> Result<Row, Uncovered>
-    ensures same { meaning measurer.new ≡ meaning measurer.old }
-    ensures stays { sound measurer.old → sound measurer.new }
-    ensures value { sound measurer.old → result ≡ row_from (meaning measurer.old) (rules policy.now) measure.units (chars text.now) (min start (length (chars text.now))) }
-    ensures first_fit { sound measurer.old → RightlyBroken (meaning measurer.old) (rules policy.now) measure.units (chars text.now) (min start (length (chars text.now))) result }
-    ensures laws { RowLaws (meaning measurer.old) (rules policy.now) measure.units }
-    ensures few { length (chars text.now) ≤ most_characters }
+    ensures same { M.meaning measurer.new ≡ M.meaning measurer.old }
+    ensures stays { M.sound measurer.old → M.sound measurer.new }
+    ensures value { M.sound measurer.old → result ≡ row_from (M.meaning measurer.old) (P.rules policy.now) measure.units (T.chars text.now) (min start (length (T.chars text.now))) }
+    ensures first_fit { M.sound measurer.old → RightlyBroken (M.meaning measurer.old) (P.rules policy.now) measure.units (T.chars text.now) (min start (length (T.chars text.now))) result }
+    ensures laws { RowLaws (M.meaning measurer.old) (P.rules policy.now) measure.units }
+    ensures few { length (T.chars text.now) ≤ most_characters }
     ensures counted { tally.new ≡ (tally.old + 1) % 2 ^ 64 }
 {
     *tally = tally.wrapping_add(1);

@@ -23,9 +23,9 @@ impl Uncovered {
 
 // The glyph that `c` lacks; a newline needs none.
 fn lacking<M: Measurer>(measurer: &mut M, c: u8) -> Option<MissingGlyph>
-    ensures same { meaning measurer.new ≡ meaning measurer.old }
-    ensures stays { sound measurer.old → sound measurer.new }
-    ensures value { sound measurer.old → result ≡ lacking (meaning measurer.old) c }
+    ensures same { M.meaning measurer.new ≡ M.meaning measurer.old }
+    ensures stays { M.sound measurer.old → M.sound measurer.new }
+    ensures value { M.sound measurer.old → result ≡ lacking (M.meaning measurer.old) c }
 {
     if c == NEWLINE {
         return None;
@@ -41,9 +41,9 @@ fn lacking<M: Measurer>(measurer: &mut M, c: u8) -> Option<MissingGlyph>
 
 // Refuses the first character, newlines aside, that has no glyph.
 pub fn check_cover<M: Measurer>(measurer: &mut M, chars: &[u8]) -> Result<(), Uncovered>
-    ensures same { meaning measurer.new ≡ meaning measurer.old }
-    ensures stays { sound measurer.old → sound measurer.new }
-    ensures value { sound measurer.old → result ≡ cover_answer (first_uncovered (meaning measurer.old) 0 chars.now) }
+    ensures same { M.meaning measurer.new ≡ M.meaning measurer.old }
+    ensures stays { M.sound measurer.old → M.sound measurer.new }
+    ensures value { M.sound measurer.old → result ≡ cover_answer (first_uncovered (M.meaning measurer.old) 0 chars.now) }
 {
     for (offset, c) in chars.iter().enumerate() {
         if let Some(glyph) = lacking(measurer, *c) {

@@ -16,9 +16,9 @@ pub fn write_edges<T: Characters, M: Measurer>(
     end: usize,
     edges: &mut [u32],
 )
-    ensures same { meaning measurer.new ≡ meaning measurer.old }
-    ensures stays { sound measurer.old → sound measurer.new }
-    ensures value { sound measurer.old → AllCovered (meaning measurer.old) (part (chars text.now) start end) → length (part (chars text.now) start end) ≤ length edges.old → edges.new ≡ edges-of (meaning measurer.old) (part (chars text.now) start end) ++ drop (length (part (chars text.now) start end)) edges.old }
+    ensures same { M.meaning measurer.new ≡ M.meaning measurer.old }
+    ensures stays { M.sound measurer.old → M.sound measurer.new }
+    ensures value { M.sound measurer.old → AllCovered (M.meaning measurer.old) (part (T.chars text.now) start end) → length (part (T.chars text.now) start end) ≤ length edges.old → edges.new ≡ edges-of (M.meaning measurer.old) (part (T.chars text.now) start end) ++ drop (length (part (T.chars text.now) start end)) edges.old }
 {
     let count = end.min(text.len()).saturating_sub(start).min(edges.len());
     let mut before = None;

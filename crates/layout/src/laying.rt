@@ -47,12 +47,12 @@ pub fn lay<T: Characters, M: Measurer, P: Policy>(
     rows: &mut RowList,
     tally: &mut u64,
 ) -> Result<(), LayFault>
-    ensures same { meaning measurer.new ≡ meaning measurer.old }
-    ensures stays { sound measurer.old → sound measurer.new }
-    ensures value { sound measurer.old → result ≡ (laid (meaning measurer.old) (rules policy.now) measure.units (chars text.now)).answer }
-    ensures items { sound measurer.old → rows.new.rows.items ≡ (laid (meaning measurer.old) (rules policy.now) measure.units (chars text.now)).rows }
-    ensures laws { LayoutLaws (meaning measurer.old) (rules policy.now) measure.units }
-    ensures counted { sound measurer.old → tally.new ≡ (tally.old + broken_for (laid (meaning measurer.old) (rules policy.now) measure.units (chars text.now))) % 2 ^ 64 }
+    ensures same { M.meaning measurer.new ≡ M.meaning measurer.old }
+    ensures stays { M.sound measurer.old → M.sound measurer.new }
+    ensures value { M.sound measurer.old → result ≡ (laid (M.meaning measurer.old) (P.rules policy.now) measure.units (T.chars text.now)).answer }
+    ensures items { M.sound measurer.old → rows.new.rows.items ≡ (laid (M.meaning measurer.old) (P.rules policy.now) measure.units (T.chars text.now)).rows }
+    ensures laws { LayoutLaws (M.meaning measurer.old) (P.rules policy.now) measure.units }
+    ensures counted { M.sound measurer.old → tally.new ≡ (tally.old + broken_for (laid (M.meaning measurer.old) (P.rules policy.now) measure.units (T.chars text.now))) % 2 ^ 64 }
 {
     rows.clear();
     let mut start = 0;

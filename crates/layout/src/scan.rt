@@ -45,7 +45,7 @@ impl Scan {
     }
 
     fn last_break<P: Policy>(&self, policy: &P, c: u8) -> Option<Break>
-        ensures { result ≡ last_break (rules policy.now) self.now c }
+        ensures { result ≡ last_break (P.rules policy.now) self.now c }
     {
         match self.before {
             Some(before) if policy.may_break(before, c) => Some(Break {
@@ -60,7 +60,7 @@ impl Scan {
     pub fn taken<P: Policy>(&self, policy: &P, c: u8, advance: u16) -> Scan
         requires place_lt_most_characters { self.now.place < most_characters }
         requires advance_bound { self.now.edge + advance < 2 ^ 32 }
-        ensures { result ≡ taken (rules policy.now) self.now c advance }
+        ensures { result ≡ taken (P.rules policy.now) self.now c advance }
     {
         let edge = self.edge + u32::from(advance);
         let width = if policy.hangs(c) { self.width } else { edge };

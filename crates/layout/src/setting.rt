@@ -52,10 +52,10 @@ pub fn set_text<M: Measurer, P: Policy>(
     policy: &P,
     measure: Measure,
 ) -> Result<RowList, SetFault>
-    ensures same { meaning measurer.new ≡ meaning measurer.old }
-    ensures stays { sound measurer.old → sound measurer.new }
-    ensures value { sound measurer.old → MatchResult result (λ l. setting_of (meaning measurer.old) (rules policy.now) measure.units text.now.chars.items ≡ Ok l.rows.items) (RefusalOf (setting_of (meaning measurer.old) (rules policy.now) measure.units text.now.chars.items)) }
-    ensures first_fit { sound measurer.old → MatchResult result (λ l. Accepted (meaning measurer.old) (rules policy.now) measure.units text.now.chars.items l.rows.items) (RightlyNotSet (meaning measurer.old) (rules policy.now) measure.units text.now.chars.items) }
+    ensures same { M.meaning measurer.new ≡ M.meaning measurer.old }
+    ensures stays { M.sound measurer.old → M.sound measurer.new }
+    ensures value { M.sound measurer.old → MatchResult result (λ l. setting_of (M.meaning measurer.old) (P.rules policy.now) measure.units text.now.chars.items ≡ Ok l.rows.items) (RefusalOf (setting_of (M.meaning measurer.old) (P.rules policy.now) measure.units text.now.chars.items)) }
+    ensures first_fit { M.sound measurer.old → MatchResult result (λ l. Accepted (M.meaning measurer.old) (P.rules policy.now) measure.units text.now.chars.items l.rows.items) (RightlyNotSet (M.meaning measurer.old) (P.rules policy.now) measure.units text.now.chars.items) }
 {
     check_cover(measurer, text.as_slice())?;
     let mut rows = RowList::new(heap)?;

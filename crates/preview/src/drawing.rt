@@ -37,7 +37,7 @@ impl Column {
 
 // The row's characters without those that hang at its end.
 pub fn unhung<'a, P: Policy>(policy: &P, chars: &'a [u8]) -> &'a [u8]
-    ensures { result.now ≡ trimmed (rules policy.now) chars.now }
+    ensures { result.now ≡ trimmed (P.rules policy.now) chars.now }
 {
     let mut end = chars.len();
     'trim: while end > 0 && policy.hangs(chars[end - 1]) {

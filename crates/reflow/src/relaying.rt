@@ -23,8 +23,8 @@ use page::text::Characters;
 
 // Where rows are broken from: the start of the old row `first`, and within the text whatever the rows are.
 fn restart<T: Characters>(text: &T, old: &[Row], first: usize) -> usize
-    ensures value { first < length old.now → (d : OneRow) → result ≡ min (slice_index_or old.now first d).start (length (chars text.now)) }
-    ensures few { length (chars text.now) ≤ most_characters }
+    ensures value { first < length old.now → (d : OneRow) → result ≡ min (slice_index_or old.now first d).start (length (T.chars text.now)) }
+    ensures few { length (T.chars text.now) ≤ most_characters }
 {
     let end = text.len();
     match old.get(first) {
@@ -46,11 +46,11 @@ fn break_until_met<T: Characters, M: Measurer, P: Policy>(
     rows: &mut RowList,
     tally: &mut u64,
 ) -> Result<usize, LayFault>
-    ensures same { meaning measurer.new ≡ meaning measurer.old }
-    ensures stays { sound measurer.old → sound measurer.new }
+    ensures same { M.meaning measurer.new ≡ M.meaning measurer.old }
+    ensures stays { M.sound measurer.old → M.sound measurer.new }
     ensures within { IfOk result (λ j. j ≤ length old.now) }
     ensures counted { OnOk result ((length rows.old.rows.items ≤ length rows.new.rows.items) × (tally.old < 2 ^ 64 → tally.new ≡ (tally.old + (length rows.new.rows.items - length rows.old.rows.items)) % 2 ^ 64)) }
-    ensures met { sound measurer.old → (new : List OneRow) → Changed (meaning measurer.old) (rules policy.now) measure.units (chars text.now) edit old.now new → Underway (meaning measurer.old) (rules policy.now) measure.units (chars text.now) edit old.now new rows.old.rows.items start → MatchResult result (λ j. Resumes edit old.now new rows.new.rows.items j) (λ f. (f ≡ TooManyRows) × (most_rows < length new)) }
+    ensures met { M.sound measurer.old → (new : List OneRow) → Changed (M.meaning measurer.old) (P.rules policy.now) measure.units (T.chars text.now) edit old.now new → Underway (M.meaning measurer.old) (P.rules policy.now) measure.units (T.chars text.now) edit old.now new rows.old.rows.items start → MatchResult result (λ j. Resumes edit old.now new rows.new.rows.items j) (λ f. (f ≡ TooManyRows) × (most_rows < length new)) }
 {
     let mut start = start;
     let mut from = 0;
@@ -82,10 +82,10 @@ pub fn relay<T: Characters, M: Measurer, P: Policy>(
     rows: &mut RowList,
     tally: &mut u64,
 ) -> Result<Repaint, LayFault>
-    ensures same { meaning measurer.new ≡ meaning measurer.old }
-    ensures stays { sound measurer.old → sound measurer.new }
-    ensures laws { ReflowLaws (meaning measurer.old) (rules policy.now) measure.units }
-    ensures relaid { sound measurer.old → Relaid (meaning measurer.old) (rules policy.now) measure.units (chars text.now) edit old.now result rows.new.rows.items tally.old tally.new }
+    ensures same { M.meaning measurer.new ≡ M.meaning measurer.old }
+    ensures stays { M.sound measurer.old → M.sound measurer.new }
+    ensures laws { ReflowLaws (M.meaning measurer.old) (P.rules policy.now) measure.units }
+    ensures relaid { M.sound measurer.old → Relaid (M.meaning measurer.old) (P.rules policy.now) measure.units (T.chars text.now) edit old.now result rows.new.rows.items tally.old tally.new }
 {
     rows.clear();
     let first = first_reaching(old, edit);

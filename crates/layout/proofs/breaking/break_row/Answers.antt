@@ -61,7 +61,7 @@ over-requires g c =
     let t = g.T.Characters.chars c.args.text.now in
     let within : c.scan.scan.place < length t = seen_within t _ _ (sym c.in-Some.ensures) in
     let few = c.len.ensures.few in
-    (omega arith, ap (λ (x : Scan). x.place) c.taken-next.ensures)
+    record { place_lt_most_characters = omega arith; place_value = ap (λ (x : Scan). x.place) c.taken-next.ensures }
 
 pub returns-then-next-units : goal.returns-then-next-units
 returns-then-next-units g c =
@@ -127,7 +127,7 @@ returns g c =
     let P = g.P.Policy.rules c.args.policy.now in
     let w = c.args.measure.units in
     let t = g.T.Characters.chars c.args.text.now in
-    let found : g.M.Measurer.sound c.args.measurer.now → Ok c.whole-2.result ≡ row_from m P w t (min c.args.start (length t)) = λ s. ap Ok c.whole-2.ensures ∙ sym (at_end _ _ _ c.scan.scan t _ (sym c.in-default.ensures)) ∙ inv.4 s in
+    let found : g.M.Measurer.sound c.args.measurer.now → Ok c.whole-2.result ≡ row_from m P w t (min c.args.start (length t)) = λ s. ap Ok c.whole-2.ensures ∙ sym (at_end _ _ _ c.scan.scan t _ (sym c.in_default.ensures)) ∙ inv.4 s in
     record {
       same = inv.2;
       stays = inv.3;

@@ -27,7 +27,7 @@ loop-offset-preserved g c =
     let m = g.M.Measurer.meaning c.args.measurer.now in
     let t = c.args.chars.now in
     let i = c.loop-offset.offset in
-    let told = c.in-default.ensures in (
+    let told = c.in_default.ensures in (
       told.same ∙ inv.0,
       (λ s. told.stays (inv.1 s)),
       (λ s.

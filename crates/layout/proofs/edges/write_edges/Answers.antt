@@ -8,8 +8,8 @@ use Rattle.layout.specs.Widths.{edges, edges_from}
 use Rattle.layout.proofs.EdgeSteps.{seen_part, advance_given, edge_more, rest_more, edges_all}
 use Rattle.layout.proofs.edges.write_edges.Goals as goal
 
-pub overflow-add-edge : goal.overflow-add-edge
-overflow-add-edge g c = omega (arith, c.len.ensures.few, c.len.ensures.value)
+pub overflow_add-edge : goal.overflow_add-edge
+overflow_add-edge g c = omega (arith, c.len.ensures.few, c.len.ensures.value)
 
 pub turn-preserved : goal.turn-preserved
 turn-preserved g c =
@@ -18,10 +18,10 @@ turn-preserved g c =
     let t = g.T.Characters.chars c.args.text.now in
     let cs = part t c.args.start c.args.end in
     let i = c.turn.i in
-    let ch = c.unwrap-or-c.result in
+    let ch = c.unwrap_or-c.result in
     let at = c.args.start + i in
     let found : seen t at ≡ Some (get_or t at 0) = slice_get-get_or t at 0 (omega (arith, c.len.ensures.value)) in
-    let is : ch ≡ get_or t at 0 = c.unwrap-or-c.ensures ∙ ap (λ (o : Option ℕ). or_zero o 0) (c.get.ensures ∙ found) in
+    let is : ch ≡ get_or t at 0 = c.unwrap_or-c.ensures ∙ ap (λ (o : Option ℕ). or_zero o 0) (c.get.ensures ∙ found) in
     let there : seen cs i ≡ Some ch = seen_part t c.args.start c.args.end i (omega arith) ∙ found ∙ ap Some (sym is) in (
       c.advance.ensures.same ∙ inv.0,
       (λ s. c.advance.ensures.stays (inv.1 s)),
@@ -29,7 +29,7 @@ turn-preserved g c =
       rest_more c.turn.edges c.args.edges.now i _ inv.3,
       (λ s v.
           let told : c.advance.result ≡ answer m c.turn.before ch = c.advance.ensures.value (inv.1 s) ∙ ap (λ (x : Meaning). answer x c.turn.before ch) inv.0 in
-          let adv : c.from-edge.result ≡ m.adv c.turn.before ch = c.from-edge.ensures ∙ c.unwrap-or.ensures ∙ ap (λ (r : Result ℕ MissingGlyph). result_unwrap_or r 0) told ∙ advance_given m c.turn.before ch (v i ch there) in
+          let adv : c.from-edge.result ≡ m.adv c.turn.before ch = c.from-edge.ensures ∙ c.unwrap_or.ensures ∙ ap (λ (r : Result ℕ MissingGlyph). result_unwrap_or r 0) told ∙ advance_given m c.turn.before ch (v i ch there) in
           edge_more m cs c.turn.edges i ch c.turn.edge c.from-edge.result c.turn.before (omega arith) there adv (inv.4 s v)),
     )
 

@@ -14,18 +14,18 @@ use Rattle.layout.proofs.LayoutTheorems.{layout_laws}
 use Rattle.layout.proofs.LayoutSteps.{Ended, behind, broke_at, stopped_at_missing, stopped_at_end, goes_on, stopped_full, counted_more}
 use Rattle.layout.proofs.laying.lay.Goals as goal
 
-pub returns-in-err-row : goal.returns-in-err-row
-returns-in-err-row g c =
+pub returns-in_err-row : goal.returns-in_err-row
+returns-in_err-row g c =
     let inv = c.rows.invariant in
-    let told = c.in-err-row.ensures in
+    let told = c.in_err-row.ensures in
     let m = g.M.Measurer.meaning c.args.measurer.now in
     let P = g.P.Policy.rules c.args.policy.now in
     let w = c.args.measure.units in
     let t = g.T.Characters.chars c.args.text.now in
     let done = vec_items c.rows.rows.rows in
-    let u = c.in-err-row.field-0.0 in
+    let u = c.in_err-row.field-0.0 in
     let short : length done < most_rows = let a = c.rows.rows.rows.ok.0 in omega (arith, c.rows-test.true, c.len.ensures) in
-    let p = err_from_is_err_and c.from-residual.result c.from-residual.ensures.1 in
+    let p = err_from_is_err_and c.from_residual.result c.from_residual.ensures.1 in
     let ended : (s : g.M.Measurer.sound c.args.measurer.now) → Ended (laid m P w t) (Err (NoGlyph u)) done (length done + 1) = λ s.
     stopped_at_missing m P w t most_rows done c.rows.start (laid m P w t) (inv.3 s) u short
     (broke_at c.rows.start (length t) (inv.2 s) (λ k. row_from m P w t k) ∙ ap (λ (x : Meaning). row_from x P w t (min c.rows.start (length t))) (sym inv.0) ∙ sym (told.value (inv.1 s))) in
@@ -38,28 +38,28 @@ returns-in-err-row g c =
       counted = λ s. counted_more c.args.tally.now c.rows.tally _ (length done) inv.4 inv.5 told.counted ∙ ap (λ (n : ℕ). (c.args.tally.now + n) % 2 ^ 64) (sym (ended s).broken);
     }
 
-pub returns-in-default : goal.returns-in-default
-returns-in-default g c =
+pub returns-in_default : goal.returns-in_default
+returns-in_default g c =
     let inv = c.rows.invariant in
-    let told = c.in-ok-row.ensures in
+    let told = c.in_ok-row.ensures in
     let m = g.M.Measurer.meaning c.args.measurer.now in
     let P = g.P.Policy.rules c.args.policy.now in
     let w = c.args.measure.units in
     let t = g.T.Characters.chars c.args.text.now in
     let done = vec_items c.rows.rows.rows in
-    let r = c.in-ok-row.row in
+    let r = c.in_ok-row.row in
     let short : length done < most_rows = let a = c.rows.rows.rows.ok.0 in omega (arith, c.rows-test.true, c.len.ensures) in
     let found : (s : g.M.Measurer.sound c.args.measurer.now) → row_from m P w t c.rows.start ≡ Ok r = λ s.
     broke_at c.rows.start (length t) (inv.2 s) (λ k. row_from m P w t k) ∙ ap (λ (x : Meaning). row_from x P w t (min c.rows.start (length t))) (sym inv.0) ∙ sym (told.value (inv.1 s)) in
     let within : (s : g.M.Measurer.sound c.args.measurer.now) → r.end ≤ 4096 = λ s.
     let e = (placed m P w t c.rows.start r ((row_laws m P w).is_first_fit t c.rows.start r (inv.2 s) (found s))).ends in let few = told.few in omega arith in
     let ended : (s : g.M.Measurer.sound c.args.measurer.now) → Ended (laid m P w t) (Ok tt) (done ++ r ∷ []) (length done + 1) = λ s.
-    stopped_at_end m P w t most_rows done c.rows.start (laid m P w t) (inv.3 s) r short (found s) (sym (c.in-default.ensures (within s))) in
+    stopped_at_end m P w t most_rows done c.rows.start (laid m P w t) (inv.3 s) r short (found s) (sym (c.in_default.ensures (within s))) in
     record {
       same = told.same ∙ inv.0;
       stays = λ s. told.stays (inv.1 s);
       value = λ s. sym (ended s).answer;
-      items = λ s. c.in-ok-push.ensures ∙ sym (ended s).rows;
+      items = λ s. c.in_ok-push.ensures ∙ sym (ended s).rows;
       laws = layout_laws m P w;
       counted = λ s. counted_more c.args.tally.now c.rows.tally _ (length done) inv.4 inv.5 told.counted ∙ ap (λ (n : ℕ). (c.args.tally.now + n) % 2 ^ 64) (sym (ended s).broken);
     }
@@ -68,7 +68,7 @@ pub rows-smaller : goal.rows-smaller
 rows-smaller g c =
     let done = c.rows.rows.rows in
     let after = c.push.new.self.rows in
-    let long = ap length c.in-ok-push.ensures ∙ length_push (vec_items done) c.in-ok-row.row in
+    let long = ap length c.in_ok-push.ensures ∙ length_push (vec_items done) c.in_ok-row.row in
     let a = done.ok.0 in
     let b = after.ok.0 in
     let room = c.rows-test.true in
@@ -78,16 +78,16 @@ rows-smaller g c =
 pub rows-preserved : goal.rows-preserved
 rows-preserved g c =
     let inv = c.rows.invariant in
-    let told = c.in-ok-row.ensures in
+    let told = c.in_ok-row.ensures in
     let m = g.M.Measurer.meaning c.args.measurer.now in
     let P = g.P.Policy.rules c.args.policy.now in
     let w = c.args.measure.units in
     let t = g.T.Characters.chars c.args.text.now in
     let done = vec_items c.rows.rows.rows in
     let more = vec_items c.push.new.self.rows in
-    let r = c.in-ok-row.row in
+    let r = c.in_ok-row.row in
     let s' = c.in-Some.next in
-    let pushed : more ≡ done ++ r ∷ [] = c.in-ok-push.ensures in
+    let pushed : more ≡ done ++ r ∷ [] = c.in_ok-push.ensures in
     let long : length more ≡ length done + 1 = ap length pushed ∙ length_push done r in
     let short : length done < most_rows = let a = c.rows.rows.rows.ok.0 in omega (arith, c.rows-test.true, c.len.ensures) in
     let found : (s : g.M.Measurer.sound c.args.measurer.now) → row_from m P w t c.rows.start ≡ Ok r = λ s.

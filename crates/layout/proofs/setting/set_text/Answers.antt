@@ -10,17 +10,17 @@ use Rattle.layout.proofs.LayoutTheorems.{layout_laws}
 use Rattle.layout.proofs.Settling.{accepted, rightly_refused, told_some, told_none, refused_for_glyph, refused_by_layout, set_by_layout}
 use Rattle.layout.proofs.setting.set_text.Goals as goal
 
-pub returns-in-err-check-cover : goal.returns-in-err-check-cover
-returns-in-err-check-cover g c =
-    let told = c.in-err-check-cover.ensures in
+pub returns-in_err-check_cover : goal.returns-in_err-check_cover
+returns-in_err-check_cover g c =
+    let told = c.in_err-check_cover.ensures in
     let m = g.M.Measurer.meaning c.args.measurer.now in
     let P = g.P.Policy.rules c.args.policy.now in
     let w = c.args.measure.units in
     let t = vec_items c.args.text.now.chars in
-    let u = c.in-err-check-cover.field-0.0 in
-    let p = err_from_is_err_and c.from-residual.result c.from-residual.ensures.1 in
+    let u = c.in_err-check_cover.field-0.0 in
+    let p = err_from_is_err_and c.from_residual.result c.from_residual.ensures.1 in
     let is : g.M.Measurer.sound c.args.measurer.now → setting_of m P w t ≡ Err (NoGlyph u) = λ s.
-    refused_for_glyph m P w t u (told_some (first_uncovered m 0 t) u (told.value s ∙ ap (λ (x : List ℕ). cover_answer (first_uncovered m 0 x)) c.as-slice.ensures)) in
+    refused_for_glyph m P w t u (told_some (first_uncovered m 0 t) u (told.value s ∙ ap (λ (x : List ℕ). cover_answer (first_uncovered m 0 x)) c.as_slice.ensures)) in
     record {
       same = told.same;
       stays = told.stays;
@@ -28,20 +28,20 @@ returns-in-err-check-cover g c =
       first_fit = λ s. rw (p.1, p.2) (rightly_refused m P w t (layout_laws m P w) (NoGlyph u) (is s));
     }
 
-pub returns-in-err-lay : goal.returns-in-err-lay
-returns-in-err-lay g c =
-    let checked = c.in-ok-check-cover.ensures in
-    let told = c.in-err-lay.ensures in
+pub returns-in_err-lay : goal.returns-in_err-lay
+returns-in_err-lay g c =
+    let checked = c.in_ok-check_cover.ensures in
+    let told = c.in_err-lay.ensures in
     let m = g.M.Measurer.meaning c.args.measurer.now in
-    let n = g.M.Measurer.meaning c.check-cover.new.measurer in
+    let n = g.M.Measurer.meaning c.check_cover.new.measurer in
     let P = g.P.Policy.rules c.args.policy.now in
     let w = c.args.measure.units in
     let t = vec_items c.args.text.now.chars in
-    let e = c.in-err-lay.field-0.0 in
-    let p = err_from_is_err_and c.from-residual-in-err-lay.result c.from-residual-in-err-lay.ensures.1 in
+    let e = c.in_err-lay.field-0.0 in
+    let p = err_from_is_err_and c.from_residual-in_err-lay.result c.from_residual-in_err-lay.ensures.1 in
     let is : g.M.Measurer.sound c.args.measurer.now → setting_of m P w t ≡ Err e = λ s.
     refused_by_layout m P w t e
-    (told_none (first_uncovered m 0 t) tt (checked.value s ∙ ap (λ (x : List ℕ). cover_answer (first_uncovered m 0 x)) c.as-slice.ensures))
+    (told_none (first_uncovered m 0 t) tt (checked.value s ∙ ap (λ (x : List ℕ). cover_answer (first_uncovered m 0 x)) c.as_slice.ensures))
     (ap (λ (x : Meaning). (laid x P w t).answer) (sym checked.same) ∙ sym (told.value (checked.stays s))) in
     record {
       same = told.same ∙ checked.same;
@@ -52,15 +52,15 @@ returns-in-err-lay g c =
 
 pub returns : goal.returns
 returns g c =
-    let checked = c.in-ok-check-cover.ensures in
-    let told = c.in-ok-lay.ensures in
+    let checked = c.in_ok-check_cover.ensures in
+    let told = c.in_ok-lay.ensures in
     let m = g.M.Measurer.meaning c.args.measurer.now in
     let P = g.P.Policy.rules c.args.policy.now in
     let w = c.args.measure.units in
     let t = vec_items c.args.text.now.chars in
     let is : g.M.Measurer.sound c.args.measurer.now → setting_of m P w t ≡ Ok (vec_items c.lay.new.rows.rows) = λ s.
     set_by_layout m P w t tt
-    (told_none (first_uncovered m 0 t) tt (checked.value s ∙ ap (λ (x : List ℕ). cover_answer (first_uncovered m 0 x)) c.as-slice.ensures))
+    (told_none (first_uncovered m 0 t) tt (checked.value s ∙ ap (λ (x : List ℕ). cover_answer (first_uncovered m 0 x)) c.as_slice.ensures))
     (ap (λ (x : Meaning). (laid x P w t).answer) (sym checked.same) ∙ sym (told.value (checked.stays s)))
     ∙ ap Ok (ap (λ (x : Meaning). (laid x P w t).rows) (sym checked.same) ∙ sym (told.items (checked.stays s))) in
     record {

@@ -3,16 +3,16 @@ use Rattle.std.proofs.lemmas.Bool.Decides.{nat_tests}
 use Rattle.numerals.proofs.Numerals.{digits_more, digits_none, digits_all, magnitude_is, pow_more, pow_most}
 use Rattle.numerals.proofs.reading.magnitude.Goals as goal
 
-pub returns-in-default : goal.returns-in-default
-returns-in-default c =
+pub returns-in_default : goal.returns-in_default
+returns-in_default c =
     let out : (leb 48 (get_or c.args.text.now c.loop-b.b-index 0) && leb (get_or c.args.text.now c.loop-b.b-index 0) 57) ≡ false = grind (arith, nat_tests) in
     record {
       value = sym (magnitude_is c.args.text.now (search rules) (search rules) ∙ sym c.loop-b.invariant.1 ∙ digits_none _ _ _ c.loop-b-test.true out);
       bound = tt;
     }
 
-pub returns-in-default·2 : goal.returns-in-default·2
-returns-in-default·2 c =
+pub returns-in_default-2 : goal.returns-in_default-2
+returns-in_default-2 c =
     let out : (leb 48 (get_or c.args.text.now c.loop-b.b-index 0) && leb (get_or c.args.text.now c.loop-b.b-index 0) 57) ≡ false = grind (arith, nat_tests) in
     record {
       value = sym (magnitude_is c.args.text.now (search rules) (search rules) ∙ sym c.loop-b.invariant.1 ∙ digits_none _ _ _ c.loop-b-test.true out);

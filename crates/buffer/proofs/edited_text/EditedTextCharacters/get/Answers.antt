@@ -6,8 +6,8 @@ use Rattle.buffer.proofs.Gaps.{length-held}
 use Rattle.buffer.proofs.Insertions.{length-edited, seen_before, seen_inside, seen_behind}
 use Rattle.buffer.proofs.edited_text.EditedTextCharacters.get.Goals as goal
 
-pub overflow-add-at : goal.overflow-add-at
-overflow-add-at c =
+pub overflow_add-at : goal.overflow_add-at
+overflow_add-at c =
     let e = c.args.self.now in
     let g = e.text.now in
     let long = length-held g in

@@ -3,8 +3,8 @@ use Rattle.std.proofs.lemmas.List.{get_or_read}
 use Rattle.buffer.proofs.Gaps.{length-held, get_or-before, get_or-behind}
 use Rattle.buffer.proofs.gap_buffer.GapBuffer.char_at.Goals as goal
 
-pub overflow-add-place : goal.overflow-add-place
-overflow-add-place c =
+pub overflow_add-place : goal.overflow_add-place
+overflow_add-place c =
     let n = length-held c.args.self.now in omega arith
 
 pub index-requires-else-place-self : goal.index-requires-else-place-self

@@ -6,5 +6,5 @@ use Rattle.buffer.proofs.gap_buffer.GapBuffer.copy_to.Goals as goal
 pub turn-preserved : goal.turn-preserved
 turn-preserved c =
     let i = c.turn.i in
-    ap (λ out. set out i c.char-at.result) c.turn.invariant
-    ∙ copied_more (held c.args.self.now) c.args.out.now c.args.start i c.char-at.result (omega arith) (omega arith) c.char-at.ensures
+    ap (λ out. set out i c.char_at.result) c.turn.invariant
+    ∙ copied_more (held c.args.self.now) c.args.out.now c.args.start i c.char_at.result (omega arith) (omega arith) c.char_at.ensures

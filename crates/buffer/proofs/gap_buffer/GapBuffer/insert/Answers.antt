@@ -12,8 +12,8 @@ returns c =
     let ins = c.args.ins.now in
     let start = g.gap_start in
     let k = start + length ins - start in
-    let put = put_mid start k c.deref-mut.result.now c.copy-from-slice.new.self in
-    let is : put ≡ put_mid start k xs ins = ap (λ l. put_mid start k l c.copy-from-slice.new.self) c.deref-mut.ensures.value ∙ ap (put_mid start k xs) c.copy-from-slice.ensures.after in
+    let put = put_mid start k c.deref_mut.result.now c.copy_from_slice.new.self in
+    let is : put ≡ put_mid start k xs ins = ap (λ l. put_mid start k l c.copy_from_slice.new.self) c.deref_mut.ensures.value ∙ ap (put_mid start k xs) c.copy_from_slice.ensures.after in
     let n = length-putMid start k xs ins (omega arith) (omega arith) in
     let long : length put ≡ g.bytes.len = omega (arith, ap length is) in
     ap (λ l. around l (start + length ins) g.gap_end) (with_items_is g.bytes put long ∙ is)

@@ -37,7 +37,7 @@ returns-in-Ok g c =
           };
       value = λ sound. let right = answered_ok m p c.args.c a (told.value sound.below) in answer_held m p c.args.c a right.0 right.1;
       keeps = subst (λ (s : Slots). Keeps pairs.slots s self.below c.advance.new.self p c.args.c (Ok a)) (sym c.keep.ensures)
-          (keeps_set pairs.slots pairs.next self.below c.advance.new.self p c.args.c a pairs.all pairs.within pairs.apart pairs.turn c.in-default.ensures);
+          (keeps_set pairs.slots pairs.next self.below c.advance.new.self p c.args.c a pairs.all pairs.within pairs.apart pairs.turn c.in_default.ensures);
     }
 
 pub returns-in-Err : goal.returns-in-Err
@@ -51,5 +51,5 @@ returns-in-Err g c =
         right = subst (λ n. Right n self.pairs.slots) (sym told.same) sound.right;
       };
       value = λ sound. answer_deeper (g.M.Measurer.meaning self.below) c.args.before c.args.c c.in-Err.missing c.deeper.result (told.value sound.below) c.deeper.ensures.0 c.deeper.ensures.1;
-      keeps = keeps_refused self.pairs.slots self.below c.advance.new.self c.args.before c.args.c c.deeper.result self.pairs.all self.pairs.apart c.in-default.ensures;
+      keeps = keeps_refused self.pairs.slots self.below c.advance.new.self c.args.before c.args.c c.deeper.result self.pairs.all self.pairs.apart c.in_default.ensures;
     }

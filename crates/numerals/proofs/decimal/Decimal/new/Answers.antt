@@ -6,14 +6,11 @@ use Rattle.numerals.proofs.decimal.Decimal.new.Goals as goal
 pub digit-init : goal.digit-init
 digit-init c = (omega arith, omega arith, omega arith, omega arith, omega arith, append-nil (decimal c.args.n))
 
-pub overflow-sub-start : goal.overflow-sub-start
-overflow-sub-start c = omega arith
+pub overflow_sub-start : goal.overflow_sub-start
+overflow_sub-start c = omega arith
 
 pub bounds-digits-start : goal.bounds-digits-start
 bounds-digits-start c = omega arith
-
-pub invariant-of-result : goal.invariant-of-result
-invariant-of-result c = (omega arith, tt)
 
 pub returns-then-rest-eq0 : goal.returns-then-rest-eq0
 returns-then-rest-eq0 c =
