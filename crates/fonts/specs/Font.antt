@@ -1,7 +1,6 @@
 -- Fonts: a width for each covered code, and kerns for some pairs.
 use Rattle.std.specs.Prelude.{ℕ, min, Bool, false, cond, ◌&&◌, List, [], ◌∷◌, ℤ, pos, ◌+ℤ◌, is_some, Some, None, Option, ◌==◌, slice_index_or}
 use Rattle.std.specs.BTreeMap as tree
-use Rattle.std.specs.Cmp.{pairs}
 use Rattle.std.specs.Option.{unwrap_or}
 use Rattle.std.specs.BTreeMap.{BTreeMap}
 use Rattle.metrics.specs.declared.entry.Glyph.{Glyph}

@@ -20,29 +20,29 @@ lines-init c = (
   refl,
 )
 
-pub returns-then-is-over : goal.returns-then-is-over
-returns-then-is-over c =
-    let told = sym c.lines.invariant.0 ∙ read_over c.args.file.now (progress c.lines.reader c.lines.glyphs c.lines.kerns) (c.lines.reader.line + 1) (sym c.lines-test.ensures) (rest c.lines.reader) (eqb-true _ _ (sym c.if-is-over.ensures)) in
+pub returns-then-is_over : goal.returns-then-is_over
+returns-then-is_over c =
+    let told = sym c.lines.invariant.0 ∙ read_over c.args.file.now (progress c.lines.reader c.lines.glyphs c.lines.kerns) (c.lines.reader.line + 1) (sym c.lines-test.ensures) (rest c.lines.reader) (eqb-true _ _ (sym c.if-is_over.ensures)) in
     record {
-      glyph-lender = c.lines.invariant.2;
-      kern-lender = c.lines.invariant.3;
+      glyph_lender = c.lines.invariant.2;
+      kern_lender = c.lines.invariant.3;
       glyphs = sym (ap (λ (o : Outcome). o.glyphs) told);
       kerns = sym (ap (λ (o : Outcome). o.kerns) told);
-      answer = ap (λ n. Err (Over (n + 1))) c.lines-read.ensures.value ∙ sym (ap (λ (o : Outcome). o.answer) told);
+      answer = ap (λ n. Err (Over (n + 1))) c.lines_read.ensures.value ∙ sym (ap (λ (o : Outcome). o.answer) told);
     }
 
-refused_turn : (c : goal.After-lines-read-in-Err) → Turn c.args.file.now c.lines.reader c.next-line-line.new.self c.take-line.new.self c.lines.glyphs c.take-line.new.glyphs c.lines.kerns c.take-line.new.kerns (line c.next-line-line.result)
+refused_turn : (c : goal.After-lines_read-in-Err) → Turn c.args.file.now c.lines.reader c.next_line-line.new.self c.take_line.new.self c.lines.glyphs c.take_line.new.glyphs c.lines.kerns c.take_line.new.kerns (line c.next_line-line.result)
 refused_turn c =
-    let long = eqb-false (length (rest c.lines.reader).text) 0 (sym c.if-is-over.ensures) in
+    let long = eqb-false (length (rest c.lines.reader).text) 0 (sym c.if-is_over.ensures) in
     record {
       same = c.lines.invariant.1;
       on = sym c.lines-test.ensures;
       some = omega (arith, long);
-      cut = c.next-line-line.ensures.value;
-      left = c.next-line-line.ensures.rest;
-      count = c.next-line-line.ensures.count;
-      kept = c.next-line-line.ensures.file;
-      stays = c.next-line-line.ensures.standing;
+      cut = c.next_line-line.ensures.value;
+      left = c.next_line-line.ensures.rest;
+      count = c.next_line-line.ensures.count;
+      kept = c.next_line-line.ensures.file;
+      stays = c.next_line-line.ensures.standing;
       there = c.in-Err.ensures.place;
       moved = c.in-Err.ensures.after;
     }
@@ -51,27 +51,27 @@ pub returns-in-Err : goal.returns-in-Err
 returns-in-Err c =
     let told = sym c.lines.invariant.0 ∙ turn_refused (refused_turn c) c.in-Err.fault c.in-Err.ensures.answer in
     record {
-      glyph-lender = c.in-Err.ensures.glyph-lender ∙ c.lines.invariant.2;
-      kern-lender = c.in-Err.ensures.kern-lender ∙ c.lines.invariant.3;
+      glyph_lender = c.in-Err.ensures.glyph_lender ∙ c.lines.invariant.2;
+      kern_lender = c.in-Err.ensures.kern_lender ∙ c.lines.invariant.3;
       glyphs = sym (ap (λ (o : Outcome). o.glyphs) told);
       kerns = sym (ap (λ (o : Outcome). o.kerns) told);
-      answer = ap (λ n. Err (At n c.in-Err.fault)) c.lines-read-in-Err.ensures.value ∙ sym (ap (λ (o : Outcome). o.answer) told);
+      answer = ap (λ n. Err (At n c.in-Err.fault)) c.lines_read-in-Err.ensures.value ∙ sym (ap (λ (o : Outcome). o.answer) told);
     }
 
-taken_turn : (c : goal.In-default) → Turn c.args.file.now c.lines.reader c.next-line-line.new.self c.take-line.new.self c.lines.glyphs c.take-line.new.glyphs c.lines.kerns c.take-line.new.kerns (line c.next-line-line.result)
+taken_turn : (c : goal.In_default) → Turn c.args.file.now c.lines.reader c.next_line-line.new.self c.take_line.new.self c.lines.glyphs c.take_line.new.glyphs c.lines.kerns c.take_line.new.kerns (line c.next_line-line.result)
 taken_turn c =
-    let long = eqb-false (length (rest c.lines.reader).text) 0 (sym c.if-is-over.ensures) in
+    let long = eqb-false (length (rest c.lines.reader).text) 0 (sym c.if-is_over.ensures) in
     record {
       same = c.lines.invariant.1;
       on = sym c.lines-test.ensures;
       some = omega (arith, long);
-      cut = c.next-line-line.ensures.value;
-      left = c.next-line-line.ensures.rest;
-      count = c.next-line-line.ensures.count;
-      kept = c.next-line-line.ensures.file;
-      stays = c.next-line-line.ensures.standing;
-      there = c.in-default.ensures.place;
-      moved = c.in-default.ensures.after;
+      cut = c.next_line-line.ensures.value;
+      left = c.next_line-line.ensures.rest;
+      count = c.next_line-line.ensures.count;
+      kept = c.next_line-line.ensures.file;
+      stays = c.next_line-line.ensures.standing;
+      there = c.in_default.ensures.place;
+      moved = c.in_default.ensures.after;
     }
 
 pub lines-smaller : goal.lines-smaller
@@ -79,18 +79,18 @@ lines-smaller c = turn_less (taken_turn c)
 
 pub lines-preserved : goal.lines-preserved
 lines-preserved c = (
-  turn_again (taken_turn c) c.in-default.ensures.answer ∙ c.lines.invariant.0,
+  turn_again (taken_turn c) c.in_default.ensures.answer ∙ c.lines.invariant.0,
   turn_file (taken_turn c),
-  c.in-default.ensures.glyph-lender ∙ c.lines.invariant.2,
-  c.in-default.ensures.kern-lender ∙ c.lines.invariant.3,
+  c.in_default.ensures.glyph_lender ∙ c.lines.invariant.2,
+  c.in_default.ensures.kern_lender ∙ c.lines.invariant.3,
 )
 
 pub returns : goal.returns
 returns c =
     let told = sym c.lines.invariant.0 ∙ read_ended c.args.file.now (progress c.lines.reader c.lines.glyphs c.lines.kerns) (c.lines.reader.line + 1) (lines (rest c.lines.reader)) (sym c.lines-test.ensures) in
     record {
-      glyph-lender = c.lines.invariant.2;
-      kern-lender = c.lines.invariant.3;
+      glyph_lender = c.lines.invariant.2;
+      kern_lender = c.lines.invariant.3;
       glyphs = sym (ap (λ (o : Outcome). o.glyphs) told);
       kerns = sym (ap (λ (o : Outcome). o.kerns) told);
       answer = sym (ap (λ (o : Outcome). o.answer) told);

@@ -3,11 +3,11 @@ use Rattle.std.proofs.lemmas.Int.{ints}
 use Rattle.afm.proofs.Numerals.{number_minus}
 use Rattle.afm.proofs.number.number.Goals as goal
 
-pub returns-in-err-magnitude : goal.returns-in-err-magnitude
-returns-in-err-magnitude c =
-    c.from-residual.ensures ∙ sym (number_minus c.args.text.now _ (search rules) c.in-err-magnitude.ensures.value)
+pub returns-in_err-magnitude-in-45 : goal.returns-in_err-magnitude-in-45
+returns-in_err-magnitude-in-45 c =
+    c.from_residual.ensures ∙ sym (number_minus c.args.text.now _ (search rules) c.in_err-magnitude-in-45.ensures.value)
 
-pub returns-in-ok-magnitude : goal.returns-in-ok-magnitude
-returns-in-ok-magnitude c =
-    let small = c.in-ok-magnitude.ensures.bound in
-    ap Some (omega (arith, ints)) ∙ sym (number_minus c.args.text.now _ (search rules) c.in-ok-magnitude.ensures.value)
+pub returns-in_ok-magnitude-in-45 : goal.returns-in_ok-magnitude-in-45
+returns-in_ok-magnitude-in-45 c =
+    let small = c.in_ok-magnitude-in-45.ensures.bound in
+    ap Some (omega (arith, ints)) ∙ sym (number_minus c.args.text.now _ (search rules) c.in_ok-magnitude-in-45.ensures.value)

@@ -6,7 +6,7 @@ use Rattle.metrics.specs.declared.entry.KernPair.{KernPair}
 use Rattle.fonts.specs.Font.{Searchable, kern_at, kern_in}
 use Rattle.fonts.proofs.Entries.{kerns_kept, kerns_put}
 use Rattle.fonts.proofs.font.kerns_by_pair.Goals as goal
-use Rattle.fonts.proofs.font.kerns_by_pair.Goals.{then-not-contains-key+in-ok-insert, else-not-contains-key}
+use Rattle.fonts.proofs.font.kerns_by_pair.Goals.{then-not-contains-key+in-ok-insert, else-not-contains_key}
 use Rattle.std.specs.Ordering.{nat_cmp, ordering_then}
 
 abbrev blank : KernPair
@@ -21,18 +21,18 @@ loop-pair-preserved c =
     let more = take_more ks i blank c.loop-pair-test.true in
     let m = c.loop-pair.kerns in
     let key : ℕ × ℕ = (k.first, k.second) in
-    elim c.if-not-contains-key.branch [
+    elim c.if-not-contains_key.branch [
       | then-not-contains-key+in-ok-insert w ↦
           let n = w.insert.new.self in
-          let free = sym (w.if-not-contains-key.ensures.finds key refl inv.0) in
+          let free = sym (w.if-not-contains_key.ensures.finds key refl inv.0) in
           let fits : SFits w16 k.kern = search rules in
           let kern = to_z w16 (of_z w16 k.kern) in
-          let put = btree-map-inserts (λ x y. ordering_then (nat_cmp x.0 y.0) (nat_cmp x.1 y.1)) m n key kern (Ok w.in-ok-insert.field-0) w.in-ok-insert.ensures.inserted inv.0 in (
+          let put = btree-map-inserts (λ x y. ordering_then (nat_cmp x.0 y.0) (nat_cmp x.1 y.1)) m n key kern (Ok w.in_ok-insert.field-0) w.in_ok-insert.ensures.inserted inv.0 in (
             subst Searchable (sym w.kerns-is) put.0,
             λ p q. ap (λ x. kern_at x p q) w.kerns-is ∙ kerns_put m (take i ks) k inv.1 n kern (to_z-of_z w16 k.kern fits) free put.1.2 p q ∙ sym (ap (λ x. kern_in x p q) more),
           )
-      | else-not-contains-key w ↦
-          let there = sym (w.if-not-contains-key.ensures.finds key refl inv.0) in (
+      | else-not-contains_key w ↦
+          let there = sym (w.if-not-contains_key.ensures.finds key refl inv.0) in (
             subst Searchable (sym w.kerns-is) inv.0,
             λ p q. ap (λ x. kern_at x p q) w.kerns-is ∙ kerns_kept m (take i ks) k inv.1 there p q ∙ sym (ap (λ x. kern_in x p q) more),
           )

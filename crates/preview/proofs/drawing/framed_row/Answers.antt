@@ -3,7 +3,7 @@ use lib.Utf8.{encode}
 use Rattle.preview.specs.Drawings.{column_units, columns, spaces, place, drawn, begins_of, last_edge}
 use Rattle.preview.proofs.Draws.{draw_more, draw_all, draw_longer, begins_more, item_or_none, mark_wider, mark_none}
 use Rattle.preview.proofs.drawing.framed_row.Goals as goal
-use Rattle.preview.proofs.drawing.framed_row.Goals.{then-edge-units+in-ok-push-str, else-edge-units}
+use Rattle.preview.proofs.drawing.framed_row.Goals.{then-edge-units+in_ok-push_str, else-edge-units}
 
 pub loop-i-preserved : goal.loop-i-preserved
 loop-i-preserved c =
@@ -16,8 +16,8 @@ loop-i-preserved c =
     let at = c.max-place.result in
     let line = string_bytes c.loop-i.line in
     let after : string_bytes c.push.new.self ≡ (line ++ spaces (at - used)) ++ encode (get_or cs i 0) =
-    c.in-ok-push.ensures.bytes
-    ∙ ap (λ (x : List ℕ). x ++ encode c.from.result) c.in-ok-pad.ensures
+    c.in_ok-push.ensures.bytes
+    ∙ ap (λ (x : List ℕ). x ++ encode c.from.result) c.in_ok-pad.ensures
     ∙ ap (λ (k : ℕ). (line ++ spaces (at - used)) ++ encode k) c.from.ensures
     in
     let stands : at ≡ place u used (get_or (begins_of edges) i 0) =
@@ -25,8 +25,8 @@ loop-i-preserved c =
     ∙ ap (λ (k : ℕ). max used (c.loop-i.edge / k)) c.units.ensures.value
     ∙ ap (λ (b : ℕ). place u used b) c.loop-i.invariant.1
     in
-    let edge : c.unwrap-or-edge.result ≡ get_or edges i 0 =
-    c.unwrap-or-edge.ensures ∙ ap (λ (o : Option ℕ). unwrap_or o 0) c.copied.ensures ∙ item_or_none edges i c.get.result c.get.ensures.lookup
+    let edge : c.unwrap_or-edge.result ≡ get_or edges i 0 =
+    c.unwrap_or-edge.ensures ∙ ap (λ (o : Option ℕ). unwrap_or o 0) c.copied.ensures ∙ item_or_none edges i c.get.result c.get.ensures.lookup
     in
     let long = draw_longer used at (get_or cs i 0) line (let l = c.loop-i.line.bytes.ok.0 in omega (arith, c.loop-i.invariant.2)) in (
       ap (λ (x : List ℕ). x ++ drawn u n (at + 1) (drop (i + 1) cs) (drop (i + 1) (begins_of edges))) after
@@ -44,12 +44,12 @@ closed c =
     let begins = begins_of c.args.edges.now in
     let used = c.loop-i.used in
     let line = string_bytes c.loop-i.line in
-    let put = c.in-ok-push-2.ensures in
+    let put = c.in_ok-push-2.ensures in
     put.bytes
     ∙ ap (λ (x : List ℕ). string_bytes c.pad-2.new.line ++ x) (put.ascii (lit< tt))
     ∙ ap (λ (x : List ℕ). x ++ 124 ∷ []) (
-    c.in-ok-pad-2.ensures
-    ∙ ap (λ (k : ℕ). line ++ spaces k) (c.saturating-sub.ensures ∙ ap (λ (k : ℕ). k - used) c.count.ensures)
+    c.in_ok-pad-2.ensures
+    ∙ ap (λ (k : ℕ). line ++ spaces k) (c.saturating_sub.ensures ∙ ap (λ (k : ℕ). k - used) c.count.ensures)
     ∙ draw_all u n used cs begins line (124 ∷ drawn u n 0 cs begins) c.loop-i.i c.loop-i-test.false c.loop-i.invariant.0)
 
 pub returns : goal.returns
@@ -65,9 +65,9 @@ returns c =
     c.loop-i.invariant.1 ∙ ap (λ (k : ℕ). get_or begins k 0) end
     in
     elim c.if-edge-units.branch [
-      | then-edge-units+in-ok-push-str w ↦
+      | then-edge-units+in_ok-push_str w ↦
           ap string_bytes w.line-is
-          ∙ w.in-ok-push-str.ensures.bytes
+          ∙ w.in_ok-push_str.ensures.bytes
           ∙ ap (λ (x : List ℕ). x ++ codes " < wider than the label") (closed c)
           ∙ append_assoc (124 ∷ all) (124 ∷ []) (codes " < wider than the label")
           ∙ ap (λ (x : List ℕ). 124 ∷ (all ++ 124 ∷ x)) (sym (mark_wider m edge (omega (arith, last, w.if-edge-units.true, c.units-2.ensures))))

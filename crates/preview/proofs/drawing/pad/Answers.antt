@@ -5,7 +5,7 @@ use Rattle.preview.proofs.drawing.pad.Goals as goal
 
 pub loop-preserved : goal.loop-preserved
 loop-preserved c =
-    let put = c.in-ok-push.ensures in
+    let put = c.in_ok-push.ensures in
     let old = string_bytes c.args.line.now in
     put.bytes
     ∙ ap (λ (x : List ℕ). string_bytes c.loop.line ++ x) (put.ascii (lit< tt))

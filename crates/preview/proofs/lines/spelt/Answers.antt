@@ -8,7 +8,7 @@ pub loop-c-preserved : goal.loop-c-preserved
 loop-c-preserved c =
     let t = c.args.chars.now in
     let i = c.loop-c.c-index in
-    c.in-ok-push.ensures.bytes
+    c.in_ok-push.ensures.bytes
     ∙ ap (λ (x : List ℕ). x ++ encode c.from.result) c.loop-c.invariant
     ∙ ap (λ (k : ℕ). spelt (take i t) ++ encode k) c.from.ensures
     ∙ flat_map_more encode [] (take i t) (get_or t i 0)

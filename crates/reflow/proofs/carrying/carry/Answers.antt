@@ -7,7 +7,7 @@ use Rattle.reflow.proofs.carrying.carry.Goals as goal
 pub loop-row-preserved : goal.loop-row-preserved
 loop-row-preserved c =
     let inv = c.loop-row.invariant in
-    let pushed = c.in-ok-push.ensures in
+    let pushed = c.in_ok-push.ensures in
     let i = c.loop-row.row-index in
     let a = c.loop-row.rows.rows.ok.0 in
     let b = c.push.new.self.rows.ok.0 in

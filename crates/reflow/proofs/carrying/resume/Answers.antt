@@ -9,7 +9,7 @@ use Rattle.reflow.proofs.carrying.resume.Goals as goal
 pub loop-row-preserved : goal.loop-row-preserved
 loop-row-preserved c =
     let inv = c.loop-row.invariant in
-    let pushed = c.in-ok-push.ensures in
+    let pushed = c.in_ok-push.ensures in
     let old = c.args.old.now in
     let i = c.loop-row.row-index in
     let move = resumed c.args.edit.del c.args.edit.ins in

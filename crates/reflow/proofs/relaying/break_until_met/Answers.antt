@@ -26,28 +26,28 @@ returns-in-Ok g c =
       met = λ s new ch u. resumes_at m P w t c.args.edit c.args.old.now new (vec_items c.rows.rows.rows) c.rows.start (inv.4 s new ch u) ch c.in-Ok.met met;
     }
 
-pub returns-in-err-row : goal.returns-in-err-row
-returns-in-err-row g c =
+pub returns-in_err-row : goal.returns-in_err-row
+returns-in_err-row g c =
     let inv = c.rows.invariant in
-    let told = c.in-err-row.ensures in
+    let told = c.in_err-row.ensures in
     let m = g.M.Measurer.meaning c.args.measurer.now in
     let m' = g.M.Measurer.meaning c.rows.measurer in
     let P = g.P.Policy.rules c.args.policy.now in
     let w = c.args.measure.units in
     let t = g.T.Characters.chars c.args.text.now in
-    let p = err_from_is_err_and c.from-residual.result c.from-residual.ensures.1 in
+    let p = err_from_is_err_and c.from_residual.result c.from_residual.ensures.1 in
     record {
       same = told.same ∙ inv.0;
       stays = λ s. told.stays (inv.1 s);
       within = rw p.1 tt;
       counted = rw p.1 tt;
-      met = λ s new ch u. absurd (never_missing m m' P w t (min c.rows.start (length t)) c.in-err-row.field-0.0 inv.0 ch.covers (told.value (inv.1 s)));
+      met = λ s new ch u. absurd (never_missing m m' P w t (min c.rows.start (length t)) c.in_err-row.field-0.0 inv.0 ch.covers (told.value (inv.1 s)));
     }
 
-pub returns-in-default : goal.returns-in-default
-returns-in-default g c =
+pub returns-in_default : goal.returns-in_default
+returns-in_default g c =
     let inv = c.rows.invariant in
-    let told = c.in-ok-row.ensures in
+    let told = c.in_ok-row.ensures in
     let m = g.M.Measurer.meaning c.args.measurer.now in
     let m' = g.M.Measurer.meaning c.rows.measurer in
     let P = g.P.Policy.rules c.args.policy.now in
@@ -59,8 +59,8 @@ returns-in-default g c =
     let done = vec_items c.rows.rows.rows in
     let more = vec_items c.push.new.self.rows in
     let start = c.rows.start in
-    let r = c.in-ok-row.row in
-    let pushed : more ≡ done ++ r ∷ [] = c.in-ok-push.ensures in
+    let r = c.in_ok-row.row in
+    let pushed : more ≡ done ++ r ∷ [] = c.in_ok-push.ensures in
     let long : length more ≡ length done + 1 = ap length pushed ∙ length_push done r in
     record {
       same = told.same ∙ inv.0;
@@ -73,7 +73,7 @@ returns-in-default g c =
           let x : RowFrom m P w t start r = broken_at m m' P w t start r inv.0 (starts_within m P w t e old new done start so_far) (told.first_fit (inv.1 s)) in
           let at = placed m P w t start r x in
           let few = told.few in
-          let last : following r ≡ None = sym (c.in-default.ensures (omega (arith, at.ends))) in
+          let last : following r ≡ None = sym (c.in_default.ensures (omega (arith, at.ends))) in
           rw pushed (ends m P w t e old new done start so_far r x (unmet.meets_none r at.starts) last);
     }
 
@@ -81,7 +81,7 @@ pub rows-smaller : goal.rows-smaller
 rows-smaller g c =
     let done = c.rows.rows.rows in
     let after = c.push.new.self.rows in
-    let long = ap length c.in-ok-push.ensures ∙ length_push (vec_items done) c.in-ok-row.row in
+    let long = ap length c.in_ok-push.ensures ∙ length_push (vec_items done) c.in_ok-row.row in
     let a = done.ok.0 in
     let b = after.ok.0 in
     let room = c.rows-test.true in
@@ -91,7 +91,7 @@ rows-smaller g c =
 pub rows-preserved : goal.rows-preserved
 rows-preserved g c =
     let inv = c.rows.invariant in
-    let told = c.in-ok-row.ensures in
+    let told = c.in_ok-row.ensures in
     let m = g.M.Measurer.meaning c.args.measurer.now in
     let m' = g.M.Measurer.meaning c.rows.measurer in
     let P = g.P.Policy.rules c.args.policy.now in
@@ -104,8 +104,8 @@ rows-preserved g c =
     let more = vec_items c.push.new.self.rows in
     let start = c.rows.start in
     let s' = c.in-Some.next in
-    let r = c.in-ok-row.row in
-    let pushed : more ≡ done ++ r ∷ [] = c.in-ok-push.ensures in
+    let r = c.in_ok-row.row in
+    let pushed : more ≡ done ++ r ∷ [] = c.in_ok-push.ensures in
     let long : length more ≡ length done + 1 = ap length pushed ∙ length_push done r in (
       told.same ∙ inv.0,
       (λ s. told.stays (inv.1 s)),

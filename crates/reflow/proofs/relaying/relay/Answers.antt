@@ -14,80 +14,80 @@ use Rattle.reflow.proofs.ReflowTheorems.{reflow_laws}
 use Rattle.reflow.proofs.RowLists.{short}
 use Rattle.reflow.proofs.relaying.relay.Goals as goal
 
-pub slice-bounds-carry-end : goal.slice-bounds-carry-end
-slice-bounds-carry-end g c =
+pub slice_bounds-carry-end : goal.slice_bounds-carry-end
+slice_bounds-carry-end g c =
     let old = c.args.old.now in
-    let n = c.first-reaching-first.result in
-    sym (length-take-le n old (omega (arith, c.first-reaching-first.ensures, prefix_len-le-length (short c.args.edit.at) old)))
+    let n = c.first_reaching-first.result in
+    sym (length-take-le n old (omega (arith, c.first_reaching-first.ensures, prefix_len-le-length (short c.args.edit.at) old)))
 
-pub returns-in-err-carry : goal.returns-in-err-carry
-returns-in-err-carry g c =
+pub returns-in_err-carry : goal.returns-in_err-carry
+returns-in_err-carry g c =
     let m = g.M.Measurer.meaning c.args.measurer.now in
     let P = g.P.Policy.rules c.args.policy.now in
     let w = c.args.measure.units in
     let t = g.T.Characters.chars c.args.text.now in
     let old = c.args.old.now in
-    let n = c.first-reaching-first.result in
-    let told : most_rows < vec_len c.clear.new.self.rows + length (take n old) = c.in-err-carry.ensures in
+    let n = c.first_reaching-first.result in
+    let told : most_rows < vec_len c.clear.new.self.rows + length (take n old) = c.in_err-carry.ensures in
     let none : length (vec_items c.clear.new.self.rows) ≡ 0 = ap length c.clear.ensures in
     let a = c.clear.new.self.rows.ok.0 in
-    let p = err_from_is_err_and c.from-residual.result c.from-residual.ensures.1 in
+    let p = err_from_is_err_and c.from_residual.result c.from_residual.ensures.1 in
     record {
       same = refl;
       stays = λ s. s;
       laws = reflow_laws m P w;
       relaid = λ s before ins q ed o.
           let b = begun m P w before ins c.args.edit ed t old q o in
-          rw p.1 (p.2, omega (arith, b.long, c.first-reaching-first.ensures, length-take n old));
+          rw p.1 (p.2, omega (arith, b.long, c.first_reaching-first.ensures, length-take n old));
     }
 
-pub returns-in-err-resumed : goal.returns-in-err-resumed
-returns-in-err-resumed g c =
+pub returns-in_err-resumed : goal.returns-in_err-resumed
+returns-in_err-resumed g c =
     let m = g.M.Measurer.meaning c.args.measurer.now in
     let P = g.P.Policy.rules c.args.policy.now in
     let w = c.args.measure.units in
     let t = g.T.Characters.chars c.args.text.now in
     let e = c.args.edit in
     let old = c.args.old.now in
-    let n = c.first-reaching-first.result in
-    let told = c.in-err-resumed.ensures in
-    let carried : vec_items c.carry.new.rows.rows ≡ take n old = c.in-ok-carry.ensures ∙ ap (λ (x : List Row). x ++ take n old) c.clear.ensures in
-    let p = err_from_is_err_and c.from-residual-in-err-resumed.result c.from-residual-in-err-resumed.ensures.1 in
+    let n = c.first_reaching-first.result in
+    let told = c.in_err-resumed.ensures in
+    let carried : vec_items c.carry.new.rows.rows ≡ take n old = c.in_ok-carry.ensures ∙ ap (λ (x : List Row). x ++ take n old) c.clear.ensures in
+    let p = err_from_is_err_and c.from_residual-in_err-resumed.result c.from_residual-in_err-resumed.ensures.1 in
     record {
       same = told.same;
       stays = told.stays;
       laws = reflow_laws m P w;
       relaid = λ s before ins q ed o.
           let b = begun m P w before ins e ed t old q o in
-          let u = under_way m P w t e old b n c.restart-start.result (vec_items c.carry.new.rows.rows) c.first-reaching-first.ensures carried c.restart-start.ensures.value in
+          let u = under_way m P w t e old b n c.restart-start.result (vec_items c.carry.new.rows.rows) c.first_reaching-first.ensures carried c.restart-start.ensures.value in
           let x = told.met s (rows_of m P w t) b.changed u in
           rw p.1 (p.2 ∙ x.0, x.1);
     }
 
-pub returns-in-err-resume : goal.returns-in-err-resume
-returns-in-err-resume g c =
+pub returns-in_err-resume : goal.returns-in_err-resume
+returns-in_err-resume g c =
     let m = g.M.Measurer.meaning c.args.measurer.now in
     let P = g.P.Policy.rules c.args.policy.now in
     let w = c.args.measure.units in
     let t = g.T.Characters.chars c.args.text.now in
     let e = c.args.edit in
     let old = c.args.old.now in
-    let n = c.first-reaching-first.result in
-    let j = c.in-ok-resumed.resumed in
+    let n = c.first_reaching-first.result in
+    let j = c.in_ok-resumed.resumed in
     let f = resumed e.del e.ins in
-    let done = vec_items c.break-until-met.new.rows.rows in
-    let laid = c.in-ok-resumed.ensures in
-    let told : most_rows < vec_len c.break-until-met.new.rows.rows + length (take (length old - j) (drop j old)) = c.in-err-resume.ensures in
-    let a = c.break-until-met.new.rows.rows.ok.0 in
-    let carried : vec_items c.carry.new.rows.rows ≡ take n old = c.in-ok-carry.ensures ∙ ap (λ (x : List Row). x ++ take n old) c.clear.ensures in
-    let p = err_from_is_err_and c.from-residual-in-err-resume.result c.from-residual-in-err-resume.ensures.1 in
+    let done = vec_items c.break_until_met.new.rows.rows in
+    let laid = c.in_ok-resumed.ensures in
+    let told : most_rows < vec_len c.break_until_met.new.rows.rows + length (take (length old - j) (drop j old)) = c.in_err-resume.ensures in
+    let a = c.break_until_met.new.rows.rows.ok.0 in
+    let carried : vec_items c.carry.new.rows.rows ≡ take n old = c.in_ok-carry.ensures ∙ ap (λ (x : List Row). x ++ take n old) c.clear.ensures in
+    let p = err_from_is_err_and c.from_residual-in_err-resume.result c.from_residual-in_err-resume.ensures.1 in
     record {
       same = laid.same;
       stays = laid.stays;
       laws = reflow_laws m P w;
       relaid = λ s before ins q ed o.
           let b = begun m P w before ins e ed t old q o in
-          let u = under_way m P w t e old b n c.restart-start.result (vec_items c.carry.new.rows.rows) c.first-reaching-first.ensures carried c.restart-start.ensures.value in
+          let u = under_way m P w t e old b n c.restart-start.result (vec_items c.carry.new.rows.rows) c.first_reaching-first.ensures carried c.restart-start.ensures.value in
           let x = laid.met s (rows_of m P w t) b.changed u in
           rw p.1 (p.2, omega (arith, ap length x.joins, length-append done (map f (drop j old)), length-map (drop j old) f, ap length (take_rest old j)));
     }
@@ -100,16 +100,16 @@ returns g c =
     let t = g.T.Characters.chars c.args.text.now in
     let e = c.args.edit in
     let old = c.args.old.now in
-    let n = c.first-reaching-first.result in
-    let j = c.in-ok-resumed.resumed in
+    let n = c.first_reaching-first.result in
+    let j = c.in_ok-resumed.resumed in
     let f = resumed e.del e.ins in
-    let done = vec_items c.break-until-met.new.rows.rows in
+    let done = vec_items c.break_until_met.new.rows.rows in
     let rows = vec_items c.resume.new.rows.rows in
     let tail = take (length old - j) (drop j old) in
-    let laid = c.in-ok-resumed.ensures in
-    let told : AllByRecursion (λ (r : Row). Small (f r)) tail → rows ≡ done ++ map f tail = c.in-ok-resume.ensures in
-    let a = c.break-until-met.new.rows.rows.ok.0 in
-    let carried : vec_items c.carry.new.rows.rows ≡ take n old = c.in-ok-carry.ensures ∙ ap (λ (x : List Row). x ++ take n old) c.clear.ensures in
+    let laid = c.in_ok-resumed.ensures in
+    let told : AllByRecursion (λ (r : Row). Small (f r)) tail → rows ≡ done ++ map f tail = c.in_ok-resume.ensures in
+    let a = c.break_until_met.new.rows.rows.ok.0 in
+    let carried : vec_items c.carry.new.rows.rows ≡ take n old = c.in_ok-carry.ensures ∙ ap (λ (x : List Row). x ++ take n old) c.clear.ensures in
     let fits : c.args.tally.now < 2 ^ 64 = omega arith in
     record {
       same = laid.same;
@@ -118,15 +118,15 @@ returns g c =
       relaid = λ s before ins q ed o.
           let new = rows_of m P w t in
           let b = begun m P w before ins e ed t old q o in
-          let u = under_way m P w t e old b n c.restart-start.result (vec_items c.carry.new.rows.rows) c.first-reaching-first.ensures carried c.restart-start.ensures.value in
+          let u = under_way m P w t e old b n c.restart-start.result (vec_items c.carry.new.rows.rows) c.first_reaching-first.ensures carried c.restart-start.ensures.value in
           let x = laid.met s new b.changed u in
           let small = resumed_small m P w t e old new done j 0 c.restart-start.ensures.few b.anew x in
           let is : rows ≡ new = told (subst (AllByRecursion (λ (r : Row). Small (f r))) (sym (take_rest old j)) small) ∙ ap (λ (y : List Row). done ++ map f y) (take_rest old j) ∙ x.joins in
           let met : c.len-met.result ≡ meeting e old new = omega (arith, c.len-met.ensures, x.met) in
-          let first : length (vec_items c.carry.new.rows.rows) ≡ first_reaching e old = omega (arith, ap length carried, length-take-le n old (omega (arith, b.changed.laws.reaches, c.first-reaching-first.ensures)), c.first-reaching-first.ensures) in
-          let counted : c.break-until-met.new.tally ≡ (c.args.tally.now + (meeting e old new - first_reaching e old)) % 2 ^ 64 = omega (arith, laid.counted.1 fits, x.met) in
-          let few : length done ≤ 1024 = omega (arith, c.break-until-met.new.rows.few) in
-          let painted : c.repainted.result ≡ repaint_of e old new = painted_anew e old c.as-slice.result.now new c.repainted.result c.len-met.result _ c.repainted.ensures (c.as-slice.ensures ∙ is) met (omega (arith, x.met)) in
+          let first : length (vec_items c.carry.new.rows.rows) ≡ first_reaching e old = omega (arith, ap length carried, length-take-le n old (omega (arith, b.changed.laws.reaches, c.first_reaching-first.ensures)), c.first_reaching-first.ensures) in
+          let counted : c.break_until_met.new.tally ≡ (c.args.tally.now + (meeting e old new - first_reaching e old)) % 2 ^ 64 = omega (arith, laid.counted.1 fits, x.met) in
+          let few : length done ≤ 1024 = omega (arith, c.break_until_met.new.rows.few) in
+          let painted : c.repainted.result ≡ repaint_of e old new = painted_anew e old c.as_slice.result.now new c.repainted.result c.len-met.result _ c.repainted.ensures (c.as_slice.ensures ∙ is) met (omega (arith, x.met)) in
           record {
             items = is;
             painted = painted;

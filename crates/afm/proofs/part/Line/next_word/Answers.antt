@@ -6,6 +6,6 @@ pub returns : goal.returns
 unfolding first_word past_word
 returns c =
     record {
-      value = scanned front (line c.args.self.now) (line c.past-start.result) _ _ _ c.front-of.ensures.value c.past-start.ensures c.front-of-len.ensures.value c.front-word.ensures;
-      after = scanned past (line c.args.self.now) (line c.past-start.result) _ _ _ c.front-of.ensures.value c.past-start.ensures c.front-of-len.ensures.value c.past.ensures;
+      value = scanned front (line c.args.self.now) (line c.past-start.result) _ _ _ c.front_of.ensures.value c.past-start.ensures c.front_of-len.ensures.value c.front-word.ensures;
+      after = scanned past (line c.args.self.now) (line c.past-start.result) _ _ _ c.front_of.ensures.value c.past-start.ensures c.front_of-len.ensures.value c.past.ensures;
     }

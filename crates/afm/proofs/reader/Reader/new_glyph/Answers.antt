@@ -3,9 +3,9 @@ use Rattle.std.proofs.lemmas.Bool.{cond-true, cond-false}
 use Rattle.afm.specs.Steps.{new_glyph, fresh_glyph}
 use Rattle.afm.proofs.reader.Reader.new_glyph.Goals as goal
 
-pub returns-in-default : goal.returns-in-default
+pub returns-in_default : goal.returns-in_default
 unfolding new_glyph
-returns-in-default c = ap (fresh_glyph c.args.self.now.file.now c.args.glyphs.now) c.in-default.ensures
+returns-in_default c = ap (fresh_glyph c.args.self.now.file.now c.args.glyphs.now) c.in_default.ensures
 
 pub returns-then-has : goal.returns-then-has
 unfolding new_glyph

@@ -4,20 +4,20 @@ use Rattle.afm.specs.Lookups.{named}
 use Rattle.afm.specs.Steps.{new_pair, fresh_pair, fresh_names, fresh_codes}
 use Rattle.afm.proofs.reader.Reader.new_pair.Goals as goal
 
-pub returns-in-default : goal.returns-in-default
+pub returns-in_default : goal.returns-in_default
 unfolding new_pair
-returns-in-default c = ap (fresh_pair c.args.self.now.file.now c.args.glyphs.now c.args.kerns.now) c.in-default.ensures
+returns-in_default c = ap (fresh_pair c.args.self.now.file.now c.args.glyphs.now c.args.kerns.now) c.in_default.ensures
 
-pub returns-in-default-named : goal.returns-in-default-named
+pub returns-in_default-named : goal.returns-in_default-named
 unfolding new_pair
-returns-in-default-named c =
-    ap (λ o. fresh_names c.args.kerns.now o (named c.args.self.now.file.now c.in-Some.pair.second.text.now c.args.glyphs.now) c.in-Some.pair.kern) c.in-default-named.ensures
+returns-in_default-named c =
+    ap (λ o. fresh_names c.args.kerns.now o (named c.args.self.now.file.now c.in-Some.pair.second.text.now c.args.glyphs.now) c.in-Some.pair.kern) c.in_default-named.ensures
     ∙ ap (fresh_pair c.args.self.now.file.now c.args.glyphs.now c.args.kerns.now) c.in-Some.ensures
 
-pub returns-in-default-named-2 : goal.returns-in-default-named-2
+pub returns-in_default-named-2 : goal.returns-in_default-named-2
 unfolding new_pair
-returns-in-default-named-2 c =
-    ap (λ o. fresh_names c.args.kerns.now (Some c.in-Some-named.first) o c.in-Some.pair.kern) c.in-default-named-2.ensures
+returns-in_default-named-2 c =
+    ap (λ o. fresh_names c.args.kerns.now (Some c.in-Some-named.first) o c.in-Some.pair.kern) c.in_default-named-2.ensures
     ∙ ap (λ o. fresh_names c.args.kerns.now o (named c.args.self.now.file.now c.in-Some.pair.second.text.now c.args.glyphs.now) c.in-Some.pair.kern) c.in-Some-named.ensures
     ∙ ap (fresh_pair c.args.self.now.file.now c.args.glyphs.now c.args.kerns.now) c.in-Some.ensures
 

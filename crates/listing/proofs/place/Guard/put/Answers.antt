@@ -10,13 +10,13 @@ returns c =
     let at : ℕ = c.args.self.now.place.now.at in
     let b : List ℕ = c.args.buffer.now in
     let k : ℕ = length c.args.bytes.now in
-    let e = c.copy-from-slice.ensures.after in
+    let e = c.copy_from_slice.ensures.after in
     let long = length-take-le at b c.requires in
     record {
       kept = (refl, refl, refl);
       within = search rules;
       after =
-          ap (λ (x : List ℕ). outcome x (Ok tt)) (take-put_mid at (at + k - at) b c.copy-from-slice.new.self (at + k) (omega (arith, ap length e)) c.requires ∙ ap (λ (x : List ℕ). take at b ++ x) e)
+          ap (λ (x : List ℕ). outcome x (Ok tt)) (take-put_mid at (at + k - at) b c.copy_from_slice.new.self (at + k) (omega (arith, ap length e)) c.requires ∙ ap (λ (x : List ℕ). take at b ++ x) e)
           ∙ added_fits (length b) (take at b) c.args.bytes.now (omega arith);
     }
 
