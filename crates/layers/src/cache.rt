@@ -79,7 +79,7 @@ pub struct AdvanceCache<M> {
 impl<M: Measurer> AdvanceCache<M> {
     pub fn new(below: M) -> AdvanceCache<M>
         ensures made { (result.below ≡ below) × (result.pairs.slots ≡ replicate most_held None) }
-        ensures sound { M.Measurer.sound below → SoundCache M.Measurer.sound M.Measurer.meaning result.below result.pairs.slots }
+        ensures sound { M.sound below → SoundCache M.sound M.meaning result.below result.pairs.slots }
     {
         AdvanceCache {
             below,
@@ -98,25 +98,25 @@ impl<M> AdvanceCache<M> {
 }
 
 impl<M: Measurer> Measurer for AdvanceCache<M> {
-    ghost meaning = { λ cache. cached (M.Measurer.meaning cache.below) };
+    ghost meaning = { λ cache. cached (M.meaning cache.below) };
 
-    ghost sound = { λ cache. SoundCache M.Measurer.sound M.Measurer.meaning cache.below cache.pairs.slots };
+    ghost sound = { λ cache. SoundCache M.sound M.meaning cache.below cache.pairs.slots };
 
     ghost bounded = { Prim.search rules };
 
     fn covers(&mut self, c: u8) -> bool
-        ensures same { cached (M.Measurer.meaning self.new.below) ≡ cached (M.Measurer.meaning self.old.below) }
-        ensures stays { SoundCache M.Measurer.sound M.Measurer.meaning self.old.below self.old.pairs.slots → SoundCache M.Measurer.sound M.Measurer.meaning self.new.below self.new.pairs.slots }
-        ensures value { SoundCache M.Measurer.sound M.Measurer.meaning self.old.below self.old.pairs.slots → result ≡ (M.Measurer.meaning self.old.below).covers c }
+        ensures same { cached (M.meaning self.new.below) ≡ cached (M.meaning self.old.below) }
+        ensures stays { SoundCache M.sound M.meaning self.old.below self.old.pairs.slots → SoundCache M.sound M.meaning self.new.below self.new.pairs.slots }
+        ensures value { SoundCache M.sound M.meaning self.old.below self.old.pairs.slots → result ≡ (M.meaning self.old.below).covers c }
         ensures keeps { self.new.pairs.slots ≡ self.old.pairs.slots }
     {
         self.below.covers(c)
     }
 
     fn advance(&mut self, before: Option<u8>, c: u8) -> Result<u16, MissingGlyph>
-        ensures same { cached (M.Measurer.meaning self.new.below) ≡ cached (M.Measurer.meaning self.old.below) }
-        ensures stays { SoundCache M.Measurer.sound M.Measurer.meaning self.old.below self.old.pairs.slots → SoundCache M.Measurer.sound M.Measurer.meaning self.new.below self.new.pairs.slots }
-        ensures value { SoundCache M.Measurer.sound M.Measurer.meaning self.old.below self.old.pairs.slots → result ≡ answer (cached (M.Measurer.meaning self.old.below)) before c }
+        ensures same { cached (M.meaning self.new.below) ≡ cached (M.meaning self.old.below) }
+        ensures stays { SoundCache M.sound M.meaning self.old.below self.old.pairs.slots → SoundCache M.sound M.meaning self.new.below self.new.pairs.slots }
+        ensures value { SoundCache M.sound M.meaning self.old.below self.old.pairs.slots → result ≡ answer (cached (M.meaning self.old.below)) before c }
         ensures keeps { Keeps self.old.pairs.slots self.new.pairs.slots self.old.below self.new.below before c result }
     {
         if let Some(advance) = self.pairs.find(before, c) {

@@ -36,16 +36,16 @@ pub struct Tracking<M> {
 impl<M: Measurer> Tracking<M> {
     pub fn new(below: M, units: TrackingUnits) -> Tracking<M>
         ensures made { (result.below ≡ below) × (result.units ≡ units) }
-        ensures sound { M.Measurer.sound below → M.Measurer.sound result.below }
+        ensures sound { M.sound below → M.sound result.below }
     {
         Tracking { below, units }
     }
 }
 
 impl<M: Measurer> Measurer for Tracking<M> {
-    ghost meaning = { λ t. tracked t.units.value (M.Measurer.meaning t.below) };
+    ghost meaning = { λ t. tracked t.units.value (M.meaning t.below) };
 
-    ghost sound = { λ t. M.Measurer.sound t.below };
+    ghost sound = { λ t. M.sound t.below };
 
     ghost bounded = { Prim.search rules };
 

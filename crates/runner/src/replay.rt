@@ -48,7 +48,7 @@ pub fn replay<M: Measurer + Drop, P: Policy + Drop>(
 ) -> Result<(), ReplayFault>
     ensures lender { list.new.buffer.ghost_name ≡ list.old.buffer.ghost_name }
     ensures room { room list.new ≡ room list.old }
-    ensures ran { M.Measurer.sound measurer → Replayed (record { M.meaning = M.Measurer.meaning measurer; P.rules = P.Policy.rules policy; measure = measure.units }) (room list.old) (written list.old) script.now result (written list.new) }
+    ensures ran { M.sound measurer → Replayed (record { meaning = M.meaning measurer; rules = P.rules policy; measure = measure.units }) (room list.old) (written list.old) script.now result (written list.new) }
 {
     let mut sheet = Sheet::new(heap, measurer, policy, measure)?;
     run(script, &mut sheet, list)?;

@@ -18,7 +18,7 @@ use reflow::repaint::Repaint;
 impl<M: Measurer, P: Policy> Sheet<M, P> {
     // Has all rows painted again. It is never refused; its record takes the place of one that is owed.
     pub fn refresh(&mut self) -> Slip
-        ensures follows { Continues (state M.Measurer.meaning M.Measurer.sound P.Policy.rules self.old) refresh accepted (state M.Measurer.meaning M.Measurer.sound P.Policy.rules self.new) }
+        ensures follows { Continues (state M.meaning M.sound P.rules self.old) refresh accepted (state M.meaning M.sound P.rules self.new) }
         ensures counted { self.new.tally ≡ self.old.tally }
     {
         let rows = self.rows.len();
@@ -34,7 +34,7 @@ impl<M: Measurer, P: Policy> Sheet<M, P> {
 
     // Spends the slip of any sheet, and fills `record` with what is owed here.
     pub fn settle(&mut self, slip: Slip, record: &mut Repaint) -> Result<(), NothingOwed>
-        ensures follows { Continues (state M.Measurer.meaning M.Measurer.sound P.Policy.rules self.old) settle (settle_answer result «record».new) (state M.Measurer.meaning M.Measurer.sound P.Policy.rules self.new) }
+        ensures follows { Continues (state M.meaning M.sound P.rules self.old) settle (settle_answer result «record».new) (state M.meaning M.sound P.rules self.new) }
         ensures counted { self.new.tally ≡ self.old.tally }
         ensures kept { OnErr result («record».new ≡ «record».old) }
     {
@@ -50,7 +50,7 @@ impl<M: Measurer, P: Policy> Sheet<M, P> {
 
     // Copies the characters of a row to the front of `buffer`, and answers the row's record.
     pub fn row(&self, number: usize, buffer: &mut [u8]) -> Result<Row, RowFault>
-        ensures follows { Continues (state M.Measurer.meaning M.Measurer.sound P.Policy.rules self.now) (row number buffer.old) (row_answer result buffer.new) (state M.Measurer.meaning M.Measurer.sound P.Policy.rules self.now) }
+        ensures follows { Continues (state M.meaning M.sound P.rules self.now) (row number buffer.old) (row_answer result buffer.new) (state M.meaning M.sound P.rules self.now) }
         ensures kept { OnErr result (buffer.new ≡ buffer.old) }
     {
         let rows = self.rows.as_slice();

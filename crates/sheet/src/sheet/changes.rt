@@ -25,8 +25,8 @@ impl<M: Measurer, P: Policy> Sheet<M, P> {
     // Puts `ins` in place of the `del` characters at `at`. The text is laid as it would read, so that
     // a refusal has nothing to undo.
     pub fn replace(&mut self, at: usize, del: usize, ins: &[u8]) -> Result<Slip, ReplaceFault>
-        ensures follows { Continues (state M.Measurer.meaning M.Measurer.sound P.Policy.rules self.old) (replace at del ins.now) (replace_answer result) (state M.Measurer.meaning M.Measurer.sound P.Policy.rules self.new) }
-        ensures counted { (k : Making) (h : History) → Follows k h (state M.Measurer.meaning M.Measurer.sound P.Policy.rules self.old) → OnOk result ((p : Record) → self.new.owed ≡ Some p → self.new.tally ≡ (self.old.tally + p.broken) % 2 ^ 64) }
+        ensures follows { Continues (state M.meaning M.sound P.rules self.old) (replace at del ins.now) (replace_answer result) (state M.meaning M.sound P.rules self.new) }
+        ensures counted { (k : Making) (h : History) → Follows k h (state M.meaning M.sound P.rules self.old) → OnOk result ((p : Record) → self.new.owed ≡ Some p → self.new.tally ≡ (self.old.tally + p.broken) % 2 ^ 64) }
         ensures early { IfErr result (λ e. Early e → self.new ≡ self.old) }
     {
         if self.owed.is_some() {
@@ -64,8 +64,8 @@ impl<M: Measurer, P: Policy> Sheet<M, P> {
 
     // Sets the measure, and lays the whole text again.
     pub fn remeasure(&mut self, measure: Measure) -> Result<Slip, RemeasureFault>
-        ensures follows { Continues (state M.Measurer.meaning M.Measurer.sound P.Policy.rules self.old) (remeasure measure.units) (remeasure_answer result) (state M.Measurer.meaning M.Measurer.sound P.Policy.rules self.new) }
-        ensures counted { (k : Making) (h : History) → Follows k h (state M.Measurer.meaning M.Measurer.sound P.Policy.rules self.old) → OnOk result ((p : Record) → self.new.owed ≡ Some p → self.new.tally ≡ (self.old.tally + p.broken) % 2 ^ 64) }
+        ensures follows { Continues (state M.meaning M.sound P.rules self.old) (remeasure measure.units) (remeasure_answer result) (state M.meaning M.sound P.rules self.new) }
+        ensures counted { (k : Making) (h : History) → Follows k h (state M.meaning M.sound P.rules self.old) → OnOk result ((p : Record) → self.new.owed ≡ Some p → self.new.tally ≡ (self.old.tally + p.broken) % 2 ^ 64) }
         ensures early { IfErr result (λ e. EarlyMeasure e → self.new ≡ self.old) }
     {
         if self.owed.is_some() {

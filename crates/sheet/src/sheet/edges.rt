@@ -18,8 +18,8 @@ impl<M: Measurer, P: Policy> Sheet<M, P> {
     // Writes the edge behind each character of a row to the front of `edges`, and answers the row's
     // record.
     pub fn edges(&mut self, number: usize, edges: &mut [u32]) -> Result<Row, RowFault>
-        ensures follows { (k : Making) (h : History) → Follows k h (state M.Measurer.meaning M.Measurer.sound P.Policy.rules self.old) → Follows k h (state M.Measurer.meaning M.Measurer.sound P.Policy.rules self.new) }
-        ensures value { (k : Making) (h : History) → Follows k h (state M.Measurer.meaning M.Measurer.sound P.Policy.rules self.old) → row_answer result edges.new ≡ edges_step k (clean_after k h) number edges.old }
+        ensures follows { (k : Making) (h : History) → Follows k h (state M.meaning M.sound P.rules self.old) → Follows k h (state M.meaning M.sound P.rules self.new) }
+        ensures value { (k : Making) (h : History) → Follows k h (state M.meaning M.sound P.rules self.old) → row_answer result edges.new ≡ edges_step k (clean_after k h) number edges.old }
         ensures kept { OnErr result ((edges.new ≡ edges.old) × (self.new ≡ self.old)) }
         ensures counted { self.new.tally ≡ self.old.tally }
         ensures text { self.new.text ≡ self.old.text }

@@ -22,7 +22,7 @@ impl<M: Measurer + Drop, P: Policy + Drop> Sheet<M, P> {
         policy: P,
         measure: Measure,
     ) -> Result<Sheet<M, P>, AllocError>
-        ensures { IfOk result (λ s. M.Measurer.sound measurer → Follows (record { M.meaning = M.Measurer.meaning measurer; P.rules = P.Policy.rules policy; measure = measure.units }) [] (state M.Measurer.meaning M.Measurer.sound P.Policy.rules s)) }
+        ensures { IfOk result (λ s. M.sound measurer → Follows (record { meaning = M.meaning measurer; rules = P.rules policy; measure = measure.units }) [] (state M.meaning M.sound P.rules s)) }
     {
         let text = GapBuffer::new(heap)?;
         let rows = one_empty_row(heap)?;

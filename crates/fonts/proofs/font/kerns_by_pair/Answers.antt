@@ -1,13 +1,11 @@
-use Rattle.std.proofs.Common.{ℕ, get_or, take, pos, Ok, sym, refl, ap, ◌∙◌, subst, w16, SFits, to_z, of_z, rules}
-use Rattle.std.proofs.lemmas.Map.Contents.{btree-map-inserts}
+use Rattle.std.proofs.Common.{ℕ, get_or, take, pos, sym, ap, ◌∙◌, subst, w16, SFits, to_z, of_z, rules}
 use Rattle.std.proofs.lemmas.List.{take_more, take_all}
 use Rattle.std.proofs.lemmas.Int.{to_z-of_z}
 use Rattle.metrics.specs.declared.entry.KernPair.{KernPair}
 use Rattle.fonts.specs.Font.{Searchable, kern_at, kern_in}
 use Rattle.fonts.proofs.Entries.{kerns_kept, kerns_put}
 use Rattle.fonts.proofs.font.kerns_by_pair.Goals as goal
-use Rattle.fonts.proofs.font.kerns_by_pair.Goals.{then-not-contains-key+in-ok-insert, else-not-contains_key}
-use Rattle.std.specs.Ordering.{nat_cmp, ordering_then}
+use Rattle.fonts.proofs.font.kerns_by_pair.Goals.{then-not-contains_key+in_ok-insert, else-not-contains_key}
 
 abbrev blank : KernPair
 blank = record { first = 0; second = 0; kern = pos 0 }
@@ -20,19 +18,17 @@ loop-pair-preserved c =
     let inv = c.loop-pair.invariant in
     let more = take_more ks i blank c.loop-pair-test.true in
     let m = c.loop-pair.kerns in
-    let key : ℕ × ℕ = (k.first, k.second) in
     elim c.if-not-contains_key.branch [
-      | then-not-contains-key+in-ok-insert w ↦
+      | then-not-contains_key+in_ok-insert w ↦
           let n = w.insert.new.self in
-          let free = sym (w.if-not-contains_key.ensures.finds key refl inv.0) in
+          let free = sym w.if-not-contains_key.ensures in
           let fits : SFits w16 k.kern = search rules in
-          let kern = to_z w16 (of_z w16 k.kern) in
-          let put = btree-map-inserts (λ x y. ordering_then (nat_cmp x.0 y.0) (nat_cmp x.1 y.1)) m n key kern (Ok w.in_ok-insert.field-0) w.in_ok-insert.ensures.inserted inv.0 in (
-            subst Searchable (sym w.kerns-is) put.0,
-            λ p q. ap (λ x. kern_at x p q) w.kerns-is ∙ kerns_put m (take i ks) k inv.1 n kern (to_z-of_z w16 k.kern fits) free put.1.2 p q ∙ sym (ap (λ x. kern_in x p q) more),
+          let kern = to_z w16 (of_z w16 k.kern) in (
+            subst Searchable (sym w.kerns-is) w.in_ok-insert.ensures.ordered,
+            λ p q. ap (λ x. kern_at x p q) w.kerns-is ∙ kerns_put m (take i ks) k inv.1 n kern (to_z-of_z w16 k.kern fits) free w.in_ok-insert.ensures.updates p q ∙ sym (ap (λ x. kern_in x p q) more),
           )
       | else-not-contains_key w ↦
-          let there = sym (w.if-not-contains_key.ensures.finds key refl inv.0) in (
+          let there = sym w.if-not-contains_key.ensures in (
             subst Searchable (sym w.kerns-is) inv.0,
             λ p q. ap (λ x. kern_at x p q) w.kerns-is ∙ kerns_kept m (take i ks) k inv.1 there p q ∙ sym (ap (λ x. kern_in x p q) more),
           )

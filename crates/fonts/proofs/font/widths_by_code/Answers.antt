@@ -4,7 +4,7 @@ use Rattle.metrics.specs.declared.entry.Glyph.{Glyph}
 use Rattle.fonts.specs.Font.{width_at, width_in}
 use Rattle.fonts.proofs.Entries.{widths_kept, widths_set, no_widths, some_same, code_not_none}
 use Rattle.fonts.proofs.font.widths_by_code.Goals as goal
-use Rattle.fonts.proofs.font.widths_by_code.Goals.{in-Some+then-is-none, in_default, in-default-via-in-None·, in-default-via-in-Some+else-is-none}
+use Rattle.fonts.proofs.font.widths_by_code.Goals.{in-Some+then-is_none, in_default, in_default-via-in-None-1, in_default-via-in-Some+else-is_none}
 
 abbrev blank : Glyph
 blank = record { name = record { at = 0; len = 0 }; code = None; width = 0 }
@@ -21,7 +21,7 @@ loop-glyph-preserved c =
     let inv = c.loop-glyph.invariant in
     let more = take_more gs i blank c.loop-glyph-test.true in
     elim c.match-glyph.branch [
-      | in-Some+then-is-none w ↦ (
+      | in-Some+then-is_none w ↦ (
         ap length w.widths-is ∙ length-set ws w.in-Some.code (Some g.width) ∙ inv.0,
         λ k. let within : w.in-Some.code < length ws = search rules in
             ap (λ x. width_at x k) w.widths-is
@@ -33,8 +33,8 @@ loop-glyph-preserved c =
         λ k. ap (λ x. width_at x k) w.widths-is
             ∙ widths_kept ws (take i gs) g inv.1
             (λ d coded. elim w.in_default.branch [
-              | in-default-via-in-None· w' ↦ let none : g.code ≡ None = search rules in absurd (code_not_none g.code d none coded)
-              | in-default-via-in-Some+else-is-none w' ↦
+              | in_default-via-in-None-1 w' ↦ let none : g.code ≡ None = search rules in absurd (code_not_none g.code d none coded)
+              | in_default-via-in-Some+else-is_none w' ↦
                   ap (λ x. is_some (width_at ws x)) (some_same d w'.in-Some.code (sym coded ∙ w'.in-Some.is)) ∙ w'.if-is_none.ensures
             ])
             k

@@ -16,7 +16,7 @@ use Rattle.sheet.proofs.sheet.Sheet.edges.Goals as goal
 pub returns-then-number-rows : goal.returns-then-number-rows
 returns-then-number-rows g c = record {
   follows = λ k h f. f;
-  value = λ k h f. no_row k h _ f c.args.number c.args.edges.now (ap (λ (rs : List Row). slice_get rs c.args.number) (sym c.as-slice-rows.ensures) ∙ slice_get_past c.as-slice-rows.result.now c.args.number c.if-number-rows.true);
+  value = λ k h f. no_row k h _ f c.args.number c.args.edges.now (ap (λ (rs : List Row). slice_get rs c.args.number) (sym c.as_slice-rows.ensures) ∙ slice_get_past c.as_slice-rows.result.now c.args.number c.if-number-rows.true);
   kept = (refl, refl);
   counted = refl;
   text = refl;
@@ -26,13 +26,13 @@ returns-then-number-rows g c = record {
 
 pub returns-then-end-start : goal.returns-then-end-start
 returns-then-end-start g c =
-    let rows = c.as-slice-rows.result.now in
+    let rows = c.as_slice-rows.result.now in
     let i = c.args.number in
     let r = get_or rows i zero_row in
     record {
       follows = λ k h f. f;
       value = λ k h f.
-          let there = ap (λ (rs : List Row). slice_get rs i) (sym c.as-slice-rows.ensures) ∙ slice_get-get_or rows i zero_row c.if-number-rows.false in
+          let there = ap (λ (rs : List Row). slice_get rs i) (sym c.as_slice-rows.ensures) ∙ slice_get-get_or rows i zero_row c.if-number-rows.false in
           let lies = inside k h _ f i c.args.edges.now r there in
           let to : c.min-end.result ≡ r.end = c.min-end.ensures ∙ omega (arith, lies.within, c.len.ensures.value) in
           let from : c.min-start.result ≡ r.start = c.min-start.ensures ∙ omega (arith, lies.forward, to) in
@@ -46,23 +46,23 @@ returns-then-end-start g c =
 
 pub returns : goal.returns
 returns g c =
-    let rows = c.as-slice-rows.result.now in
+    let rows = c.as_slice-rows.result.now in
     let i = c.args.number in
     let r = get_or rows i zero_row in
     let t = held c.args.self.now.text in
     let m = g.M.Measurer.meaning c.args.self.now.measurer in
     let b = c.args.edges.now in
     record {
-      follows = λ k h f. stays k h _ f _ (record { meaning = c.write-edges.ensures.same; rules = refl; sound = c.write-edges.ensures.stays; measure = refl; text = refl; rows = refl; owed = refl });
+      follows = λ k h f. stays k h _ f _ (record { meaning = c.write_edges.ensures.same; rules = refl; sound = c.write_edges.ensures.stays; measure = refl; text = refl; rows = refl; owed = refl });
       value = λ k h f.
-          let there = ap (λ (rs : List Row). slice_get rs i) (sym c.as-slice-rows.ensures) ∙ slice_get-get_or rows i zero_row c.if-number-rows.false in
+          let there = ap (λ (rs : List Row). slice_get rs i) (sym c.as_slice-rows.ensures) ∙ slice_get-get_or rows i zero_row c.if-number-rows.false in
           let lies = inside k h _ f i b r there in
           let to : c.min-end.result ≡ r.end = c.min-end.ensures ∙ omega (arith, lies.within, c.len.ensures.value) in
           let from : c.min-start.result ≡ r.start = c.min-start.ensures ∙ omega (arith, lies.forward, to) in
           let covered = subst₂ (λ (x y : ℕ). AllCovered m (part t x y)) (sym from) (sym to) (covers k h _ f i b r there) in
           let long : length (part t c.min-start.result c.min-end.result) ≡ r.end - r.start = length_part t c.min-start.result c.min-end.result (omega (arith, lies.within, to)) ∙ ap₂ ◌-◌ to from in
-          told_edges k h _ f i b r there c.write-edges.new.edges
-          (c.write-edges.ensures.value f.sound covered (omega (arith, long, c.if-end-start.false, to, from))
+          told_edges k h _ f i b r there c.write_edges.new.edges
+          (c.write_edges.ensures.value f.sound covered (omega (arith, long, c.if-end-start.false, to, from))
           ∙ ap (λ (n : ℕ). edges-of m (part t c.min-start.result c.min-end.result) ++ drop n b) long
           ∙ ap₂ (λ (x y : ℕ). edges-of m (part t x y) ++ drop (r.end - r.start) b) from to)
           (omega (arith, c.if-end-start.false, to, from));

@@ -10,9 +10,9 @@ returns g c = λ s. record {
   rules = refl;
   sound = s;
   measure = refl;
-  text = c.in-ok-text.ensures;
+  text = c.in_ok-text.ensures;
   owed = refl;
-  rows = c.in-ok-rows.ensures;
+  rows = c.in_ok-rows.ensures;
   covered = λ k ch e n. (let z : ◌≡◌ {A = ℕ} 0 1 = cc in absurd (omega arith));
   few_rows = omega arith;
   few = omega arith;

@@ -11,16 +11,16 @@ use Rattle.sheet.proofs.Remeasuring.{laid_all, all_few, broken_all, grown, laid_
 use Rattle.sheet.proofs.Replacing.{none_owed}
 use Rattle.sheet.proofs.sheet.Sheet.remeasure.Goals as goal
 
-pub returns-then-is-some : goal.returns-then-is-some
-returns-then-is-some g c = record {
-  follows = λ k h f. refused_owed k h _ _ f c.args.measure.units (sym c.if-is-some.ensures) (record { meaning = refl; rules = refl; sound = λ s. s; measure = refl; text = refl; rows = refl; owed = refl });
+pub returns-then-is_some : goal.returns-then-is_some
+returns-then-is_some g c = record {
+  follows = λ k h f. refused_owed k h _ _ f c.args.measure.units (sym c.if-is_some.ensures) (record { meaning = refl; rules = refl; sound = λ s. s; measure = refl; text = refl; rows = refl; owed = refl });
   counted = λ k h f. tt;
   early = λ _. refl;
 }
 
-pub returns-then-is-err : goal.returns-then-is-err
-returns-then-is-err g c =
-    let none = none_owed c.args.self.now.owed (sym c.is-some.ensures ∙ c.if-is-some.false) in
+pub returns-then-is_err : goal.returns-then-is_err
+returns-then-is_err g c =
+    let none = none_owed c.args.self.now.owed (sym c.is_some.ensures ∙ c.if-is_some.false) in
     let m = g.M.Measurer.meaning c.args.self.now.measurer in
     let P = g.P.Policy.rules c.args.self.now.policy in
     let w = c.args.measure.units in
@@ -29,7 +29,7 @@ returns-then-is-err g c =
       follows = λ k h f.
           let v : Covered m t = subst₂ Covered (sym f.meaning) (sym f.text) f.covered in
           refused_many k h _ _ f w none
-          (refused_layout m P w t v c.lay.result (sym (c.lay.ensures.value f.sound)) (sym c.if-is-err.ensures.value))
+          (refused_layout m P w t v c.lay.result (sym (c.lay.ensures.value f.sound)) (sym c.if-is_err.ensures.value))
           (record { meaning = c.lay.ensures.same; rules = refl; sound = c.lay.ensures.stays; measure = refl; text = refl; rows = refl; owed = refl });
       counted = λ k h f. tt;
       early = λ x. absurd x;
@@ -37,19 +37,19 @@ returns-then-is-err g c =
 
 pub returns : goal.returns
 returns g c =
-    let none = none_owed c.args.self.now.owed (sym c.is-some.ensures ∙ c.if-is-some.false) in
+    let none = none_owed c.args.self.now.owed (sym c.is_some.ensures ∙ c.if-is_some.false) in
     let m = g.M.Measurer.meaning c.args.self.now.measurer in
     let P = g.P.Policy.rules c.args.self.now.policy in
     let w = c.args.measure.units in
     let t = held c.args.self.now.text in
     let fits : c.args.self.now.tally < 2 ^ 64 = omega arith in
     let new-len : c.len-2.result ≡ length (vec_items c.swap.new.x.rows) = c.len-2.ensures ∙ c.swap.new.x.rows.ok.0 in
-    let old-len : c.len.result ≡ length (vec_items c.args.self.now.rows.rows) = c.len.ensures ∙ c.swap.new.y.rows.ok.0 ∙ ap (λ (l : RowList). length (vec_items l.rows)) c.swap.ensures.y-after in
+    let old-len : c.len.result ≡ length (vec_items c.args.self.now.rows.rows) = c.len.ensures ∙ c.swap.new.y.rows.ok.0 ∙ ap (λ (l : RowList). length (vec_items l.rows)) c.swap.ensures.y_after in
     record {
       follows = λ k h f.
           let v : Covered m t = subst₂ Covered (sym f.meaning) (sym f.text) f.covered in
-          let ok = sym (c.lay.ensures.value f.sound) ∙ laid_right c.lay.result (sym c.is-err.ensures.value ∙ c.if-is-err.false) in
-          let items : vec_items c.swap.new.x.rows ≡ rows_of m P w t = ap (λ (l : RowList). vec_items l.rows) c.swap.ensures.x-after ∙ c.lay.ensures.items f.sound ∙ laid_all m P w t v ok in
+          let ok = sym (c.lay.ensures.value f.sound) ∙ laid_right c.lay.result (sym c.is_err.ensures.value ∙ c.if-is_err.false) in
+          let items : vec_items c.swap.new.x.rows ≡ rows_of m P w t = ap (λ (l : RowList). vec_items l.rows) c.swap.ensures.x_after ∙ c.lay.ensures.items f.sound ∙ laid_all m P w t v ok in
           let new : c.len-2.result ≡ length (rows_of m P w t) = new-len ∙ ap length items in
           let broken : (c.lay.new.tally + (2 ^ 64 - c.args.self.now.tally)) % 2 ^ 64 ≡ length (rows_of m P w t) =
           grown c.args.self.now.tally c.lay.new.tally (length (rows_of m P w t)) fits (all_few m P w t v ok) (c.lay.ensures.counted f.sound ∙ ap (λ (n : ℕ). (c.args.self.now.tally + n) % 2 ^ 64) (broken_all m P w t v ok)) in
@@ -66,7 +66,7 @@ returns g c =
           });
       counted = λ k h f p is.
           let v : Covered m t = subst₂ Covered (sym f.meaning) (sym f.text) f.covered in
-          let ok = sym (c.lay.ensures.value f.sound) ∙ laid_right c.lay.result (sym c.is-err.ensures.value ∙ c.if-is-err.false) in
+          let ok = sym (c.lay.ensures.value f.sound) ∙ laid_right c.lay.result (sym c.is_err.ensures.value ∙ c.if-is_err.false) in
           let told = c.lay.ensures.counted f.sound ∙ ap (λ (n : ℕ). (c.args.self.now.tally + n) % 2 ^ 64) (broken_all m P w t v ok) in
           let broken : (c.lay.new.tally + (2 ^ 64 - c.args.self.now.tally)) % 2 ^ 64 ≡ length (rows_of m P w t) = grown c.args.self.now.tally c.lay.new.tally (length (rows_of m P w t)) fits (all_few m P w t v ok) told in
           let same : (c.lay.new.tally + (2 ^ 64 - c.args.self.now.tally)) % 2 ^ 64 ≡ p.broken = broken_of p is in

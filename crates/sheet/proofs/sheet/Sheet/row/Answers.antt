@@ -12,19 +12,19 @@ use Rattle.sheet.proofs.sheet.Sheet.row.Goals as goal
 
 pub returns-then-number-rows : goal.returns-then-number-rows
 returns-then-number-rows g c = record {
-  follows = λ k h f. no_such_row k h _ f c.args.number c.args.buffer.now (ap (λ (rs : List Row). slice_get rs c.args.number) (sym c.as-slice-rows.ensures) ∙ slice_get_past c.as-slice-rows.result.now c.args.number c.if-number-rows.true);
+  follows = λ k h f. no_such_row k h _ f c.args.number c.args.buffer.now (ap (λ (rs : List Row). slice_get rs c.args.number) (sym c.as_slice-rows.ensures) ∙ slice_get_past c.as_slice-rows.result.now c.args.number c.if-number-rows.true);
   kept = refl;
 }
 
 pub returns-then-end-start : goal.returns-then-end-start
 returns-then-end-start g c =
-    let rows = c.as-slice-rows.result.now in
+    let rows = c.as_slice-rows.result.now in
     let i = c.args.number in
     let r = get_or rows i zero_row in
     let t = held c.args.self.now.text in
     record {
       follows = λ k h f.
-          let there = ap (λ (rs : List Row). slice_get rs i) (sym c.as-slice-rows.ensures) ∙ slice_get-get_or rows i zero_row c.if-number-rows.false in
+          let there = ap (λ (rs : List Row). slice_get rs i) (sym c.as_slice-rows.ensures) ∙ slice_get-get_or rows i zero_row c.if-number-rows.false in
           let lies = inside k h _ f i c.args.buffer.now r there in
           let to : c.min-end.result ≡ r.end = c.min-end.ensures ∙ omega (arith, lies.within, c.len.ensures.value) in
           let from : c.min-start.result ≡ r.start = c.min-start.ensures ∙ omega (arith, lies.forward, to) in
@@ -34,17 +34,17 @@ returns-then-end-start g c =
 
 pub returns : goal.returns
 returns g c =
-    let rows = c.as-slice-rows.result.now in
+    let rows = c.as_slice-rows.result.now in
     let i = c.args.number in
     let r = get_or rows i zero_row in
     let t = held c.args.self.now.text in
     let b = c.args.buffer.now in
     record {
       follows = λ k h f.
-          let there = ap (λ (rs : List Row). slice_get rs i) (sym c.as-slice-rows.ensures) ∙ slice_get-get_or rows i zero_row c.if-number-rows.false in
+          let there = ap (λ (rs : List Row). slice_get rs i) (sym c.as_slice-rows.ensures) ∙ slice_get-get_or rows i zero_row c.if-number-rows.false in
           let lies = inside k h _ f i b r there in
           let to : c.min-end.result ≡ r.end = c.min-end.ensures ∙ omega (arith, lies.within, c.len.ensures.value) in
           let from : c.min-start.result ≡ r.start = c.min-start.ensures ∙ omega (arith, lies.forward, to) in
-          shown_row k h _ f i b r there c.copy-to.new.out (c.copy-to.ensures ∙ ap₂ (λ (x y : ℕ). part t x y ++ drop (y - x) b) from to) (omega (arith, c.if-end-start.false, to, from));
+          shown_row k h _ f i b r there c.copy_to.new.out (c.copy_to.ensures ∙ ap₂ (λ (x y : ℕ). part t x y ++ drop (y - x) b) from to) (omega (arith, c.if-end-start.false, to, from));
       kept = tt;
     }
