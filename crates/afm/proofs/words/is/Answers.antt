@@ -9,4 +9,4 @@ unfolding is
 returns c =
     let text = c.args.text.now in
     let keyword = c.args.keyword.now in
-    same_from_decides c.result.result (bytes_eq text keyword) (slice_eq-Decides Decides-eqb text keyword c.result.result c.result.ensures) (bytes_eq-Decides text keyword)
+    same_from_decides c.eq.result (bytes_eq text keyword) (slice_eq-Decides Decides-eqb text keyword c.eq.result c.eq.ensures) (bytes_eq-Decides text keyword)

@@ -5,7 +5,7 @@ use Rattle.script.proofs.command.first_character.Goals as goal
 
 pub returns-in-err-escape : goal.returns-in-err-escape
 returns-in-err-escape c =
-    rw c.from-residual.ensures (stray_at c.args.written.now (search rules) c.if-c-ne-BACKSLASH.false (sym c.in-err-escape.ensures))
+    rw c.from_residual.ensures (stray_at c.args.written.now (search rules) c.if-c-ne-BACKSLASH.false (sym c.in-err-escape.ensures))
 
 pub returns-in-len1-up : goal.returns-in-len1-up
 returns-in-len1-up c = simp take_rest (itself_at c.args.written.now c.requires c.if-c-ne-BACKSLASH.true)

@@ -13,6 +13,6 @@ answered_or (Some c) e = refl
 pub returns : goal.returns
 returns c =
     record {
-      value = ap answered c.ok-or.ensures.value ∙ answered_or c.read.result _ ∙ c.read.ensures;
+      value = ap answered c.ok_or.ensures.value ∙ answered_or c.read.result _ ∙ c.read.ensures;
       laws = command_laws;
     }

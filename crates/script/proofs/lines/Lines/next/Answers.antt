@@ -18,7 +18,7 @@ returns-in-Some c =
 
 pub returns-in-None : goal.returns-in-None
 returns-in-None c =
-    let none : lines c.args.self.now.rest.now ≡ [] = ap lines (nil_from_length _ (eqb-true _ _ (sym c.if-is-empty.ensures))) ∙ lines_none in
+    let none : lines c.args.self.now.rest.now ≡ [] = ap lines (nil_from_length _ (eqb-true _ _ (sym c.if-is_empty.ensures))) ∙ lines_none in
     record {
       value = ap (λ (ls : List (List ℕ)). slice_get ls 0) (sym none);
       rest = none ∙ ap (drop 1) (sym none);
@@ -29,7 +29,7 @@ returns-in-None c =
 pub returns-in-None-2 : goal.returns-in-None-2
 returns-in-None-2 c =
     let xs = c.args.self.now.rest.now in
-    let here = at_last xs c.in-None-2.ensures ∙ whole_some xs (eqb-false _ _ (sym c.if-is-empty.ensures)) in
+    let here = at_last xs c.in-None-2.ensures ∙ whole_some xs (eqb-false _ _ (sym c.if-is_empty.ensures)) in
     record {
       value = ap (λ (ls : List (List ℕ)). slice_get ls 0) (sym here);
       rest = lines_none ∙ ap (drop 1) (sym here);
