@@ -55,7 +55,7 @@ impl Screen {
         } else {
             (record.from, record.removed, record.put)
         };
-        let painted = paint_rows(self.rows.allocator(), sheet, from, put)?;
+        let painted = paint_rows(*self.rows.allocator(), sheet, from, put)?;
         let start = from.min(shown);
         let end = from.saturating_add(removed).min(shown);
         let _gone = self.rows.splice(start..end, painted)?;

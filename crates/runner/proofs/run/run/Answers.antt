@@ -13,13 +13,13 @@ lines-init g c =
     let same = ap length c.new-lines.ensures.start in
     (λ k h f. ([], f, refl), refl, refl, omega arith)
 
-pub returns-then-is-err : goal.returns-then-is-err
-returns-then-is-err g c =
+pub returns-then-is_err : goal.returns-then-is_err
+returns-then-is_err g c =
     let s = state g.M.Measurer.meaning g.M.Measurer.sound g.P.Policy.rules c.lines.sheet in
-    let s' = state g.M.Measurer.meaning g.M.Measurer.sound g.P.Policy.rules c.run-line-reply.new.sheet in
+    let s' = state g.M.Measurer.meaning g.M.Measurer.sound g.P.Policy.rules c.run_line-reply.new.sheet in
     let R = room c.args.list.now in
     let n = c.lines.number + 1 in
-    let ws = outcome_words n c.run-line-reply.result in
+    let ws = outcome_words n c.run_line-reply.result in
     record {
       lender = c.enter-in-Some.ensures.lender ∙ c.lines.invariant.1;
       room = c.enter-in-Some.ensures.room ∙ c.lines.invariant.2;
@@ -28,26 +28,26 @@ returns-then-is-err g c =
           of_lines k h s' R (written c.args.list.now) (written c.enter-in-Some.new.list) c.args.script.now c.new-lines.result.rest.now (Err (record { line = n })) (omega arith) c.new-lines.ensures.start
           (turn_full k h s s' R (written c.lines.list) (written c.enter-in-Some.new.list) n (lines c.lines.lines.rest.now) c.in-Some.line.now _ going ws c.enter-in-Some.result
           c.in-Some.ensures.value
-          (c.run-line-reply.ensures k (going.0 ++ h) going.1)
+          (c.run_line-reply.ensures k (going.0 ++ h) going.1)
           (c.enter-in-Some.ensures.after ∙ ap (λ (x : ℕ). entered x (written c.lines.list) ws) c.lines.invariant.2)
-          (sym c.if-is-err.ensures.value));
+          (sym c.if-is_err.ensures.value));
     }
 
 pub lines-preserved : goal.lines-preserved
 lines-preserved g c =
     let s = state g.M.Measurer.meaning g.M.Measurer.sound g.P.Policy.rules c.lines.sheet in
-    let s' = state g.M.Measurer.meaning g.M.Measurer.sound g.P.Policy.rules c.run-line-reply.new.sheet in
+    let s' = state g.M.Measurer.meaning g.M.Measurer.sound g.P.Policy.rules c.run_line-reply.new.sheet in
     let R = room c.args.list.now in
     let n = c.lines.number + 1 in
     let ls = lines c.lines.lines.rest.now in
-    let ws = outcome_words n c.run-line-reply.result in (
+    let ws = outcome_words n c.run_line-reply.result in (
       λ k h f.
           let going = c.lines.invariant.0 k h f in
           turn_again k h s s' R (written c.lines.list) (written c.enter-in-Some.new.list) n ls c.in-Some.line.now _ going ws c.enter-in-Some.result
           c.in-Some.ensures.value
-          (c.run-line-reply.ensures k (going.0 ++ h) going.1)
+          (c.run_line-reply.ensures k (going.0 ++ h) going.1)
           (c.enter-in-Some.ensures.after ∙ ap (λ (x : ℕ). entered x (written c.lines.list) ws) c.lines.invariant.2)
-          (sym c.if-is-err.ensures.value)
+          (sym c.if-is_err.ensures.value)
           (lines c.next.new.self.rest.now)
           c.next.ensures.rest,
       c.enter-in-Some.ensures.lender ∙ c.lines.invariant.1,
@@ -64,5 +64,5 @@ returns g c =
       room = c.lines.invariant.2;
       ran = λ k h f.
           of_lines k h s R (written c.args.list.now) (written c.lines.list) c.args.script.now c.new-lines.result.rest.now (Ok tt) (omega arith) c.new-lines.ensures.start
-          (turn_over k h s R (written c.lines.list) (c.lines.number + 1) (lines c.lines.lines.rest.now) _ (c.lines.invariant.0 k h f) c.in-default.ensures.value);
+          (turn_over k h s R (written c.lines.list) (c.lines.number + 1) (lines c.lines.lines.rest.now) _ (c.lines.invariant.0 k h f) c.in_default.ensures.value);
     }

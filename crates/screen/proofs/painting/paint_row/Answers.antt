@@ -3,18 +3,18 @@ use native.Mathlib.Nat.{sub-zero}
 use Rattle.screen.proofs.Painted.{none_there, none_measured, painted_row}
 use Rattle.screen.proofs.painting.paint_row.Goals as goal
 
-pub returns-in-default : goal.returns-in-default
-returns-in-default g c = record {
+pub returns-in_default : goal.returns-in_default
+returns-in_default g c = record {
   follows = λ k h f. f;
   counted = refl;
-  value = λ k h f. none_there k h _ f c.args.number _ _ (omega arith) (c.in-default.ensures.follows k h f).agrees.0.answer;
+  value = λ k h f. none_there k h _ f c.args.number _ _ (omega arith) (c.in_default.ensures.follows k h f).agrees.0.answer;
 }
 
-pub returns-in-default-edges : goal.returns-in-default-edges
-returns-in-default-edges g c = record {
+pub returns-in_default-edges : goal.returns-in_default-edges
+returns-in_default-edges g c = record {
   follows = λ k h f. c.edges.ensures.follows k h f;
   counted = c.edges.ensures.counted;
-  value = λ k h f. none_measured k h _ f c.args.number _ _ (omega arith) (c.in-default-edges.ensures.value k h f);
+  value = λ k h f. none_measured k h _ f c.args.number _ _ (omega arith) (c.in_default-edges.ensures.value k h f);
 }
 
 pub returns : goal.returns
@@ -25,8 +25,8 @@ returns g c = record {
       let n = c.min-len.result in
       let told = (c.in-Ok.ensures.follows k h f).agrees.0.answer in
       let behind = c.in-Ok-edges.ensures.value k h f in
-      let chars : vec_items c.in-ok-from-slice.field-0 ≡ take n c.row.new.buffer = c.in-ok-from-slice.ensures.items ∙ ap (λ (i : ℕ). take i c.row.new.buffer) (sub-zero n) in
-      let edges : vec_items c.in-ok-from-slice-2.field-0 ≡ take n c.edges.new.edges = c.in-ok-from-slice-2.ensures.items ∙ ap (λ (i : ℕ). take i c.edges.new.edges) (sub-zero n) in
+      let chars : vec_items c.in_ok-from_slice.field-0 ≡ take n c.row.new.buffer = c.in_ok-from_slice.ensures.items ∙ ap (λ (i : ℕ). take i c.row.new.buffer) (sub-zero n) in
+      let edges : vec_items c.in_ok-from_slice-2.field-0 ≡ take n c.edges.new.edges = c.in_ok-from_slice-2.ensures.items ∙ ap (λ (i : ℕ). take i c.edges.new.edges) (sub-zero n) in
       (λ j. Some (record { chars = chars j; edges = edges j; ending = c.in-Ok.row.ending }))
-      ∙ painted_row k h _ f c.args.number _ c.row.new.buffer _ c.edges.new.edges c.in-Ok.row c.in-Ok-edges.field-0 n told behind (c.min-len.ensures ∙ ap (λ (i : ℕ). min i 4096) c.saturating-sub.ensures);
+      ∙ painted_row k h _ f c.args.number _ c.row.new.buffer _ c.edges.new.edges c.in-Ok.row c.in-Ok-edges.field-0 n told behind (c.min-len.ensures ∙ ap (λ (i : ℕ). min i 4096) c.saturating_sub.ensures);
 }

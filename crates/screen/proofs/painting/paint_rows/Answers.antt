@@ -7,16 +7,16 @@ use Rattle.sheet.specs.Histories.{clean_after, clean_screen}
 use Rattle.screen.specs.Views.{shown_row}
 use Rattle.screen.proofs.Gathered.{row_more, rows_end, rows_all}
 use Rattle.screen.proofs.painting.paint_rows.Goals as goal
-use Rattle.screen.proofs.painting.paint_rows.Goals.{else-rows-test, then-rows-test+in-ok-row+in-default}
+use Rattle.screen.proofs.painting.paint_rows.Goals.{else-rows-test, then-rows-test+in_ok-row+in_default}
 
 pub rows-preserved : goal.rows-preserved
 rows-preserved g c =
     let inv = c.rows.invariant in
-    let told = c.in-ok-row.ensures in (
+    let told = c.in_ok-row.ensures in (
       (λ k h f. told.follows k h (inv.0 k h f)),
       told.counted ∙ inv.1,
       (λ k h f.
-          ap (map shown_row) c.in-ok-push.ensures.items
+          ap (map shown_row) c.in_ok-push.ensures.items
           ∙ row_more (clean_screen k (clean_after k h)) c.args.from c.rows.number (vec_items c.rows.painted) c.in-Some.row (omega arith) (inv.2 k h f) (ap (option_map shown_row) (sym c.in-Some.is) ∙ told.value k h (inv.0 k h f))),
     )
 
@@ -30,12 +30,12 @@ returns g c =
             counted = rw w.sheet-is inv.1;
             value = λ k h f. inv.2 k h f ∙ rows_all (clean_screen k (clean_after k h)) c.args.from c.rows.number c.args.put (omega arith) (rw length-map f.few_rows) (let up = c.rows.auto.number-end (omega arith) in omega arith);
           }
-      | then-rows-test+in-ok-row+in-default w ↦
-          let told = w.in-ok-row.ensures in
+      | then-rows-test+in_ok-row+in_default w ↦
+          let told = w.in_ok-row.ensures in
           record {
             follows = rw w.sheet-is (λ k h f. told.follows k h (inv.0 k h f));
             counted = rw w.sheet-is (told.counted ∙ inv.1);
-            value = λ k h f. inv.2 k h f ∙ rows_end (clean_screen k (clean_after k h)) c.args.from c.rows.number c.args.put empty (omega arith) (ap (option_map shown_row) (sym w.in-default.is) ∙ told.value k h (inv.0 k h f));
+            value = λ k h f. inv.2 k h f ∙ rows_end (clean_screen k (clean_after k h)) c.args.from c.rows.number c.args.put empty (omega arith) (ap (option_map shown_row) (sym w.in_default.is) ∙ told.value k h (inv.0 k h f));
           }
     ]
   where

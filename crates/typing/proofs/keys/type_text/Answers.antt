@@ -17,7 +17,7 @@ returns-in-Err g c k h f sees =
 pub keys-preserved : goal.keys-preserved
 keys-preserved g c k h f sees =
     let so = c.keys.invariant k h f sees in
-    one_more k h c.args.text.now c.keys.place (omega arith) c.keys.effort _ _ so _ _ c.in-Ok.broken c.row-count.result (c.in-Ok.ensures k _ so.0.follows so.0.screen_is) (c.row-count.ensures ∙ c.press.new.sheet.rows.rows.ok.0)
+    one_more k h c.args.text.now c.keys.place (omega arith) c.keys.effort _ _ so _ _ c.in-Ok.broken c.row_count.result (c.in-Ok.ensures k _ so.0.follows so.0.screen_is) (c.row_count.ensures ∙ c.press.new.sheet.rows.rows.ok.0)
 
 pub returns : goal.returns
 returns g c k h f sees =

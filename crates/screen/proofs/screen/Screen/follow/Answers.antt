@@ -18,23 +18,23 @@ placed sheet screen x = take x.0 screen ++ (take x.2 (drop x.0 sheet) ++ drop (x
 pub returns : goal.returns
 returns g c =
     let old = vec_items c.args.self.now.rows in
-    let new = vec_items c.in-ok-painted.painted in
-    let put = c.in-ok--gone.ensures.items in
+    let new = vec_items c.in_ok-painted.painted in
+    let put = c.in_ok-_gone.ensures.items in
     let x = c.if-record.from in
     let long : c.len-shown.result ≡ length old = c.len-shown.ensures ∙ c.args.self.now.rows.ok.0 in
     let few : length old < 2 ^ 64 = omega arith in
     let start : c.min-start.result ≡ min x.0 (length old) = c.min-start.ensures ∙ ap (min x.0) long in
-    let stop : c.min-end.result ≡ min (min (x.0 + x.1) (2 ^ 64 - 1)) (length old) = c.min-end.ensures ∙ ap₂ min c.saturating-add.ensures long in
+    let stop : c.min-end.result ≡ min (min (x.0 + x.1) (2 ^ 64 - 1)) (length old) = c.min-end.ensures ∙ ap₂ min c.saturating_add.ensures long in
     let taken : put.1 ≡ new = All-taken put.0 put.1 put.3 ∙ put.2.0 in
     let now : vec_items c.splice.new.self ≡ take (min x.0 (length old)) old ++ (new ++ drop (min (min (x.0 + x.1) (2 ^ 64 - 1)) (length old)) old) = put.4 ∙ (λ j. take (start j) old ++ (taken j ++ drop (stop j) old)) in
     let painted : (k : Making) (h : History) → Follows k h (state g.M.Measurer.meaning g.M.Measurer.sound g.P.Policy.rules c.args.sheet.now) → map shown_row (vec_items c.splice.new.self) ≡ followed c.args.record.now (clean_screen k (clean_after k h)) (map shown_row old) = λ k h f.
     let sheet = clean_screen k (clean_after k h) in
     let screen = map shown_row old in
-    let so : map shown_row (vec_items c.splice.new.self) ≡ placed sheet screen x = ap (map shown_row) now ∙ put_in old new few sheet x.0 x.1 x.2 (c.in-ok-painted.ensures.value k h f) in
+    let so : map shown_row (vec_items c.splice.new.self) ≡ placed sheet screen x = ap (map shown_row) now ∙ put_in old new few sheet x.0 x.1 x.2 (c.in_ok-painted.ensures.value k h f) in
     elim c.if-record.branch [
       | then-record w ↦
-          let rows : w.row-count.result ≡ length sheet = w.row-count.ensures ∙ c.args.sheet.now.rows.rows.ok.0 ∙ ap length f.rows ∙ sym (length-map _ _) in
-          so ∙ ap (placed sheet screen) w.from-is ∙ followed_whole c.args.record.now sheet screen w.row-count.result c.len-shown.result w.if-record.true rows (long ∙ sym (length-map old shown_row))
+          let rows : w.row_count.result ≡ length sheet = w.row_count.ensures ∙ c.args.sheet.now.rows.rows.ok.0 ∙ ap length f.rows ∙ sym (length-map _ _) in
+          so ∙ ap (placed sheet screen) w.from-is ∙ followed_whole c.args.record.now sheet screen w.row_count.result c.len-shown.result w.if-record.true rows (long ∙ sym (length-map old shown_row))
       | else-record w ↦ so ∙ ap (placed sheet screen) w.from-is ∙ followed_part c.args.record.now sheet screen w.if-record.false
     ] in
     record {
@@ -43,6 +43,6 @@ returns g c =
           let on = painted k (e ∷ h) f ∙ ap (followed c.args.record.now (clean_screen k (clean_after k (e ∷ h)))) was ∙ goes_on k h e c.args.record.now told _ f in
           (on, on ∙ shows_clean k h e c.args.record.now told _ f);
       kept = tt;
-      follows = c.paint-rows.ensures.follows;
-      counted = c.paint-rows.ensures.counted;
+      follows = c.paint_rows.ensures.follows;
+      counted = c.paint_rows.ensures.counted;
     }
