@@ -19,69 +19,69 @@ returns-in_err-at g c =
     let line = c.args.line.now in
     λ k h n f. rw (p.1, p.2) (refused_line k h s line n _ (16 ∷ []) f (no_line k (clean_after k h) line (sym c.in_err-at.ensures.value)) refl)
 
-pub returns-in-err-slip : goal.returns-in-err-slip
-returns-in-err-slip g c =
-    let p = err_from_is_err_and c.from-residual-in-err-slip.result c.from-residual-in-err-slip.ensures.1 in
+pub returns-in_err-slip-in-Replace : goal.returns-in_err-slip-in-Replace
+returns-in_err-slip-in-Replace g c =
+    let p = err_from_is_err_and c.from_residual-in_err-slip-in-Replace.result c.from_residual-in_err-slip-in-Replace.ensures.1 in
     let s = state g.M.Measurer.meaning g.M.Measurer.sound g.P.Policy.rules c.replace.new.self in
     let line = c.args.line.now in
-    let told = c.in-err-slip.ensures in
+    let told = c.in_err-slip-in-Replace.ensures in
     let at = c.in-Replace.at in
     let del = c.in-Replace.del in
     let ins = c.in-Replace.text.now in
     let is = sym c.in_ok-at.ensures.value ∙ ap (λ (x : code.Command). Some (asked x)) c.in-Replace.is in
-    λ k h n f. rw (p.1, p.2) (refused_change k h s line n _ (replace at del ins) (replace_told c.in-err-slip.field-0.0) (told.follows k h f) (replace_line k (clean_after k h) line at del ins is) refl)
+    λ k h n f. rw (p.1, p.2) (refused_change k h s line n _ (replace at del ins) (replace_told c.in_err-slip-in-Replace.field-0.0) (told.follows k h f) (replace_line k (clean_after k h) line at del ins is) refl)
 
-pub returns-in-err-new : goal.returns-in-err-new
-returns-in-err-new g c =
-    let p = err_from_is_err_and c.from-residual-in-err-new.result c.from-residual-in-err-new.ensures.1 in
+pub returns-in_err-new-in-Measure : goal.returns-in_err-new-in-Measure
+returns-in_err-new-in-Measure g c =
+    let p = err_from_is_err_and c.from_residual-in_err-new-in-Measure.result c.from_residual-in_err-new-in-Measure.ensures.1 in
     let s = state g.M.Measurer.meaning g.M.Measurer.sound g.P.Policy.rules c.args.sheet.now in
     let line = c.args.line.now in
     let is = sym c.in_ok-at.ensures.value ∙ ap (λ (x : code.Command). Some (asked x)) c.in-Measure.is in
-    λ k h n f. rw (p.1, p.2) (refused_line k h s line n _ (6 ∷ []) f (no_measure_line k (clean_after k h) line c.in-Measure.units is c.in-err-new.ensures) refl)
+    λ k h n f. rw (p.1, p.2) (refused_line k h s line n _ (6 ∷ []) f (no_measure_line k (clean_after k h) line c.in-Measure.units is c.in_err-new-in-Measure.ensures) refl)
 
-pub returns-in-err-slip-2 : goal.returns-in-err-slip-2
-returns-in-err-slip-2 g c =
-    let p = err_from_is_err_and c.from-residual-in-err-slip-2.result c.from-residual-in-err-slip-2.ensures.1 in
+pub returns-in_err-slip-in-Measure : goal.returns-in_err-slip-in-Measure
+returns-in_err-slip-in-Measure g c =
+    let p = err_from_is_err_and c.from_residual-in_err-slip-in-Measure.result c.from_residual-in_err-slip-in-Measure.ensures.1 in
     let s = state g.M.Measurer.meaning g.M.Measurer.sound g.P.Policy.rules c.remeasure.new.self in
     let line = c.args.line.now in
-    let told = c.in-err-slip-2.ensures in
-    let made = c.in-ok-new.ensures in
-    let w = c.in-ok-new.field-0.units in
+    let told = c.in_err-slip-in-Measure.ensures in
+    let made = c.in_ok-new-in-Measure.ensures in
+    let w = c.in_ok-new-in-Measure.field-0.units in
     let is = sym c.in_ok-at.ensures.value ∙ ap (λ (x : code.Command). Some (asked x)) c.in-Measure.is ∙ ap (λ (u : ℕ). Some (asked (Measure u))) (sym made.1) in
-    λ k h n f. rw (p.1, p.2) (refused_change k h s line n _ (remeasure w) (remeasure_told c.in-err-slip-2.field-0.0) (told.follows k h f) (measure_line k (clean_after k h) line w is (c.in-ok-new.field-0.least, c.in-ok-new.field-0.most)) refl)
+    λ k h n f. rw (p.1, p.2) (refused_change k h s line n _ (remeasure w) (remeasure_told c.in_err-slip-in-Measure.field-0.0) (told.follows k h f) (measure_line k (clean_after k h) line w is (c.in_ok-new-in-Measure.field-0.least, c.in_ok-new-in-Measure.field-0.most)) refl)
 
-pub returns-in-err-row : goal.returns-in-err-row
-returns-in-err-row g c =
-    let p = err_from_is_err_and c.from-residual-in-err-row.result c.from-residual-in-err-row.ensures.1 in
+pub returns-in_err-row-in-Show : goal.returns-in_err-row-in-Show
+returns-in_err-row-in-Show g c =
+    let p = err_from_is_err_and c.from_residual-in_err-row-in-Show.result c.from_residual-in_err-row-in-Show.ensures.1 in
     let s = state g.M.Measurer.meaning g.M.Measurer.sound g.P.Policy.rules c.args.sheet.now in
     let line = c.args.line.now in
-    let told = c.in-err-row.ensures in
+    let told = c.in_err-row-in-Show.ensures in
     let i = c.in-Show.number in
     let is = sym c.in_ok-at.ensures.value ∙ ap (λ (x : code.Command). Some (asked x)) c.in-Show.is in
-    λ k h n f. rw (p.1, p.2) (shown_line k h s line n _ i c.args.row.now (refused (row_told c.in-err-row.field-0.0)) c.told-row (told.follows k h f) (show_line k (clean_after k h) line i is) refl)
+    λ k h n f. rw (p.1, p.2) (shown_line k h s line n _ i c.args.row.now (refused (row_told c.in_err-row-in-Show.field-0.0)) c.told-row (told.follows k h f) (show_line k (clean_after k h) line i is) refl)
 
-pub returns-in-ok-slip : goal.returns-in-ok-slip
-returns-in-ok-slip g c =
+pub returns-in_ok-slip-in-Replace : goal.returns-in_ok-slip-in-Replace
+returns-in_ok-slip-in-Replace g c =
     let s₁ = state g.M.Measurer.meaning g.M.Measurer.sound g.P.Policy.rules c.replace.new.self in
     let s = state g.M.Measurer.meaning g.M.Measurer.sound g.P.Policy.rules c.settle.new.sheet in
     let line = c.args.line.now in
-    let told = c.in-ok-slip.ensures in
+    let told = c.in_ok-slip-in-Replace.ensures in
     let at = c.in-Replace.at in
     let del = c.in-Replace.del in
     let ins = c.in-Replace.text.now in
     let is = sym c.in_ok-at.ensures.value ∙ ap (λ (x : code.Command). Some (asked x)) c.in-Replace.is in
     λ k h n f. settled_change k h s line n _ (replace at del ins) s₁ (told.follows k h f) (replace_line k (clean_after k h) line at del ins is) (c.settle.ensures k (event (replace at del ins) accepted s₁ ∷ h) n (told.follows k h f))
 
-pub returns-in-ok-slip-2 : goal.returns-in-ok-slip-2
-returns-in-ok-slip-2 g c =
+pub returns-in_ok-slip-in-Measure : goal.returns-in_ok-slip-in-Measure
+returns-in_ok-slip-in-Measure g c =
     let s₁ = state g.M.Measurer.meaning g.M.Measurer.sound g.P.Policy.rules c.remeasure.new.self in
     let s = state g.M.Measurer.meaning g.M.Measurer.sound g.P.Policy.rules c.settle-in-Measure.new.sheet in
     let line = c.args.line.now in
-    let told = c.in-ok-slip-2.ensures in
-    let made = c.in-ok-new.ensures in
-    let w = c.in-ok-new.field-0.units in
+    let told = c.in_ok-slip-in-Measure.ensures in
+    let made = c.in_ok-new-in-Measure.ensures in
+    let w = c.in_ok-new-in-Measure.field-0.units in
     let is = sym c.in_ok-at.ensures.value ∙ ap (λ (x : code.Command). Some (asked x)) c.in-Measure.is ∙ ap (λ (u : ℕ). Some (asked (Measure u))) (sym made.1) in
-    λ k h n f. settled_change k h s line n _ (remeasure w) s₁ (told.follows k h f) (measure_line k (clean_after k h) line w is (c.in-ok-new.field-0.least, c.in-ok-new.field-0.most)) (c.settle-in-Measure.ensures k (event (remeasure w) accepted s₁ ∷ h) n (told.follows k h f))
+    λ k h n f. settled_change k h s line n _ (remeasure w) s₁ (told.follows k h f) (measure_line k (clean_after k h) line w is (c.in_ok-new-in-Measure.field-0.least, c.in_ok-new-in-Measure.field-0.most)) (c.settle-in-Measure.ensures k (event (remeasure w) accepted s₁ ∷ h) n (told.follows k h f))
 
 pub returns-in-Refresh : goal.returns-in-Refresh
 returns-in-Refresh g c =
@@ -92,11 +92,11 @@ returns-in-Refresh g c =
     let is = sym c.in_ok-at.ensures.value ∙ ap (λ (x : code.Command). Some (asked x)) c.in-Refresh.is in
     λ k h n f. settled_change k h s line n _ refresh s₁ (told.follows k h f) (refresh_line k (clean_after k h) line is) (c.settle-in-Refresh.ensures k (event refresh accepted s₁ ∷ h) n (told.follows k h f))
 
-pub returns-in-ok-row : goal.returns-in-ok-row
-returns-in-ok-row g c =
+pub returns-in_ok-row-in-Show : goal.returns-in_ok-row-in-Show
+returns-in_ok-row-in-Show g c =
     let s = state g.M.Measurer.meaning g.M.Measurer.sound g.P.Policy.rules c.args.sheet.now in
     let line = c.args.line.now in
-    let told = c.in-ok-row.ensures in
+    let told = c.in_ok-row-in-Show.ensures in
     let i = c.in-Show.number in
     let is = sym c.in_ok-at.ensures.value ∙ ap (λ (x : code.Command). Some (asked x)) c.in-Show.is in
-    λ k h n f. shown_line k h s line n _ i c.args.row.now (shown c.in-ok-row.field-0 c.row.new.buffer) c.told-row (told.follows k h f) (show_line k (clean_after k h) line i is) refl
+    λ k h n f. shown_line k h s line n _ i c.args.row.now (shown c.in_ok-row-in-Show.field-0 c.row.new.buffer) c.told-row (told.follows k h f) (show_line k (clean_after k h) line i is) refl
