@@ -19,6 +19,7 @@ use program::options::{Breaks, Options, from_args, input};
 use program::stop::Stop;
 use std::alloc::{AllocError, Global};
 use std::io;
+use std::process::ExitCode;
 
 const USAGE: &str = "\
 usage: label [MEASURE [FONT.afm [TRACKING [spaces|anywhere]]]] < text
@@ -124,11 +125,12 @@ fn run(rt: &HostRuntime) -> Result<(), Stop> {
     show_by(rt, &text, &mut measurer, breaks, measure, Column::HalfCell)
 }
 
-fn main(rt: HostRuntime) -> Result<(), Stop> {
-    let outcome = run(&rt);
-    if let Err(stop) = &outcome {
-        let who = stop.prefix("label: ");
-        eprintln!(rt; "{who}{stop}")?;
-    }
-    outcome
+// The status tells how it went, also where nothing can be written.
+fn main(rt: HostRuntime) -> ExitCode {
+    let Err(stop) = run(&rt) else {
+        return ExitCode::SUCCESS;
+    };
+    let who = stop.prefix("label: ");
+    let _said = eprintln!(rt; "{who}{stop}");
+    ExitCode::FAILURE
 }

@@ -14,6 +14,7 @@ use program::stop::Stop;
 use runner::replay::replay;
 use runner::run::MAX_SCRIPT;
 use std::io::Write;
+use std::process::ExitCode;
 
 const USAGE: &str = "\
 usage: replay [FONT.afm MEASURE TRACKING spaces|anywhere] < script
@@ -79,11 +80,12 @@ fn show(rt: &HostRuntime) -> Result<(), Stop> {
     list_by(rt, pile(font, cells, units), breaks, measure)
 }
 
-fn main(rt: HostRuntime) -> Result<(), Stop> {
-    let outcome = show(&rt);
-    if let Err(stop) = &outcome {
-        let who = stop.prefix("replay: ");
-        eprintln!(rt; "{who}{stop}")?;
-    }
-    outcome
+// The status tells how it went, also where nothing can be written.
+fn main(rt: HostRuntime) -> ExitCode {
+    let Err(stop) = show(&rt) else {
+        return ExitCode::SUCCESS;
+    };
+    let who = stop.prefix("replay: ");
+    let _said = eprintln!(rt; "{who}{stop}");
+    ExitCode::FAILURE
 }

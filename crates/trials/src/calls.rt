@@ -44,7 +44,7 @@ fn call<M: Measurer, P: Policy>(
     text: &mut [u8; MAX_CHARACTERS],
     buffer: &mut [u8],
 ) -> Result<Answer, CommandFault> {
-    if line == b"P" {
+    if line == b"P".as_slice() {
         let mut record = NO_RECORD;
         let slip = bank.refresh();
         sheet.settle(slip, &mut record)?;

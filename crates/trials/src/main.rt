@@ -2,6 +2,7 @@
 #![tactic(auto)]
 
 use std::io::Read;
+use std::process::ExitCode;
 
 mod calls;
 mod case;
@@ -29,6 +30,9 @@ fn run(rt: &HostRuntime) -> Result<(), Stop> {
     Ok(())
 }
 
-fn main(rt: HostRuntime) -> Result<(), Stop> {
-    run(&rt)
+fn main(rt: HostRuntime) -> ExitCode {
+    match run(&rt) {
+        Ok(()) => ExitCode::SUCCESS,
+        Err(_) => ExitCode::FAILURE,
+    }
 }

@@ -16,6 +16,7 @@ use program::stop::Stop;
 use screen::screen::Screen;
 use sheet::sheet::Sheet;
 use std::io;
+use std::process::ExitCode;
 use typing::keys::{Effort, type_text};
 
 const USAGE: &str = "\
@@ -122,11 +123,12 @@ fn run(rt: &HostRuntime) -> Result<(), Stop> {
     show_by(rt, &text, measurer, breaks, measure, Column::HalfCell)
 }
 
-fn main(rt: HostRuntime) -> Result<(), Stop> {
-    let outcome = run(&rt);
-    if let Err(stop) = &outcome {
-        let who = stop.prefix("typist: ");
-        eprintln!(rt; "{who}{stop}")?;
-    }
-    outcome
+// The status tells how it went, also where nothing can be written.
+fn main(rt: HostRuntime) -> ExitCode {
+    let Err(stop) = run(&rt) else {
+        return ExitCode::SUCCESS;
+    };
+    let who = stop.prefix("typist: ");
+    let _said = eprintln!(rt; "{who}{stop}");
+    ExitCode::FAILURE
 }
