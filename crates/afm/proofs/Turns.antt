@@ -1,5 +1,5 @@
 -- One turn of the loop over lines, by what its calls ensure.
-use Rattle.std.proofs.Common.{◌≡◌, ℕ, ◌+◌, ◌<◌, false, List, length, Ok, Err, Result, sym, ap, ◌∙◌, arith}
+use Rattle.std.proofs.Common.{◌≡◌, ℕ, ◌+◌, ◌<◌, false, List, length, Ok, Err, sym, ap, ◌∙◌, arith}
 use Rattle.lists.specs.Holding.{holding}
 use Rattle.lists.specs.declared.bounded.BoundedList.{BoundedList}
 use Rattle.metrics.specs.declared.entry.Glyph.{Glyph}
@@ -8,7 +8,7 @@ use Rattle.afm.proofs.Runs.{length-past-line, read_on, read_refused}
 use Rattle.afm.specs.Lines.{rest_of, first_line, past_line, lines}
 use Rattle.afm.specs.Parts.{Part}
 use Rattle.afm.specs.Reading.{outcome, is_ended, read_lines}
-use Rattle.afm.specs.Steps.{Place, Standing, Progress, after, answer, line_step, place, standing, rest, progress}
+use Rattle.afm.specs.Steps.{Place, Standing, after, answer, line_step, place, standing, rest, progress}
 use Rattle.afm.specs.declared.fault.AfmFault.TheVariants.{At}
 use Rattle.afm.specs.declared.fault.LineFault.{LineFault}
 use Rattle.afm.specs.declared.reader.Reader.{Reader}

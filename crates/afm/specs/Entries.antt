@@ -1,5 +1,5 @@
 -- Entry lines, after their first word. Words are counted from 0.
-use Rattle.std.specs.Prelude.{ℕ, List, length, ℤ, Some, None, codes, Option}
+use Rattle.std.specs.Prelude.{length, ℤ, Some, None, codes, Option}
 use Rattle.metrics.specs.declared.entry.Span.{Span}
 use Rattle.metrics.specs.declared.entry.Glyph.{Glyph}
 use Rattle.afm.specs.Fields.{code_of, width_of, kern_of, name_of, expected}

@@ -1,5 +1,5 @@
 -- Kinds of bytes. Words stand between spaces or tabs, lines end at a newline.
-use Rattle.std.specs.Prelude.{ℕ, Bool, not, ◌&&◌, ◌||◌, ◌==◌}
+use Rattle.std.specs.Prelude.{ℕ, Bool, not, ◌||◌, ◌==◌}
 use Rattle.afm.specs.declared.kind.Kind.{Kind}
 use Rattle.afm.specs.declared.kind.Kind.TheVariants.{Blank, Dark, Inline}
 

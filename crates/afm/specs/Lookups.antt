@@ -1,5 +1,5 @@
 -- Names, codes and pairs among the entries taken so far.
-use Rattle.std.specs.Prelude.{ℕ, Bool, true, false, cond, ◌&&◌, List, [], ◌∷◌, take, drop, is_some, Some, None, Option, ◌==◌}
+use Rattle.std.specs.Prelude.{ℕ, Bool, false, cond, ◌&&◌, List, [], ◌∷◌, take, drop, is_some, Some, None, Option, ◌==◌}
 use Rattle.metrics.specs.declared.entry.Span.{Span}
 use Rattle.metrics.specs.declared.entry.Glyph.{Glyph}
 use Rattle.metrics.specs.declared.entry.KernPair.{KernPair}

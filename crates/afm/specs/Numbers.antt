@@ -1,5 +1,5 @@
 -- Numbers as a font file writes them: one to five digits, a minus before them or none.
-use Rattle.std.specs.Prelude.{ℕ, Bool, cond, ◌&&◌, List, drop, ℤ, pos, neg_ℤ, Some, None, Option, ◌==◌, int_le, slice_index}
+use Rattle.std.specs.Prelude.{ℕ, cond, ◌&&◌, List, drop, ℤ, pos, neg_ℤ, Some, None, Option, ◌==◌, int_le, slice_index}
 use Rattle.numerals.specs.Reading.{magnitude}
 use Rattle.std.specs.Option.{option_map}
 

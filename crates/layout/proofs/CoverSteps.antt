@@ -1,6 +1,6 @@
 -- One law for each way that the look for an uncovered character goes on.
-use Rattle.std.proofs.Common.{◌≡◌, ℕ, ◌+◌, Bool, true, false, cond, ◌||◌, eqb, List, [], ◌∷◌, Some, None, Option, sym, refl, ap, ◌∙◌, arith}
-use Rattle.metrics.specs.Meaning.{Meaning, missing}
+use Rattle.std.proofs.Common.{◌≡◌, ℕ, ◌+◌, Bool, true, false, ◌||◌, eqb, List, [], ◌∷◌, Some, None, Option, refl}
+use Rattle.metrics.specs.Meaning.{Meaning}
 use Rattle.metrics.specs.declared.fault.MissingGlyph.{MissingGlyph}
 use Rattle.layout.specs.Covers.{first_uncovered, lacking}
 use Rattle.page.specs.Texts.{newline}

@@ -1,5 +1,5 @@
 -- One law for each way that a scan goes on.
-use Rattle.std.proofs.Common.{◌≡◌, ℕ, zero, suc, ◌+◌, ◌<◌, ◌≤◌, Bool, true, false, cond, eqb, ltb, List, [], ◌∷◌, length, drop, Some, None, Ok, Err, Option, Result, sym, refl, ap, ◌∙◌, arith, le-ltb, lt-ltb, eq-eqb, ne_eqb}
+use Rattle.std.proofs.Common.{◌≡◌, ℕ, ◌+◌, ◌<◌, ◌≤◌, Bool, true, false, List, [], ◌∷◌, drop, Some, None, Ok, Err, Option, refl, arith, le-ltb, lt-ltb, ne_eqb}
 use Rattle.metrics.specs.Meaning.{Meaning, answer, missing}
 use Rattle.metrics.specs.declared.fault.MissingGlyph.{MissingGlyph}
 use Rattle.page.specs.Policies.{Rules}

@@ -1,15 +1,12 @@
 -- What an accepted and a refused text mean, from the definition of setting.
-use Rattle.std.proofs.Common.{◌≡◌, ℕ, zero, suc, ◌+◌, ◌-◌, ◌<◌, ◌≤◌, Bool, true, false, cond, ◌||◌, eqb, ◌⊎◌, List, [], ◌∷◌, length, Some, None, Ok, Err, Option, Result, sym, refl, ap, ◌∙◌, subst, inl, inr, add-zero, arith, eqb-true}
+use Rattle.std.proofs.Common.{◌≡◌, ℕ, zero, suc, ◌+◌, ◌<◌, ◌≤◌, Bool, true, false, eqb, List, [], ◌∷◌, length, Some, None, Ok, Err, Option, Result, sym, refl, ap, ◌∙◌, add-zero, arith, eqb-true}
 use borrow.Author.Tests.{eqb-false}
 use Rattle.metrics.specs.Meaning.{Meaning, missing}
 use Rattle.metrics.specs.declared.fault.MissingGlyph.{MissingGlyph}
 use Rattle.layout.specs.Covers.{Covered, first_uncovered, lacking, cover_answer}
-use Rattle.layout.specs.FirstFit.{RowsFrom}
-use Rattle.layout.specs.Layouts.{Laid, laid, laid_from, most_rows}
+use Rattle.layout.specs.Layouts.{laid, laid_from, most_rows}
 use Rattle.page.specs.Policies.{Rules}
-use Rattle.page.specs.Rows.{following}
-use Rattle.layout.specs.Scans.{row_from}
-use Rattle.layout.specs.Settings.{setting_of, set_by, rows_if, Accepted, TellsFirst, RightlyRefused}
+use Rattle.layout.specs.Settings.{setting_of, Accepted, TellsFirst, RightlyRefused}
 use Rattle.page.specs.Texts.{seen, newline}
 use Rattle.layout.specs.Theorems.{LayoutLaws}
 use Rattle.layout.specs.declared.cover.Uncovered.{Uncovered}

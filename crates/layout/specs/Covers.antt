@@ -1,5 +1,5 @@
 -- Texts that a measurer covers, and the first character that it does not.
-use Rattle.std.specs.Prelude.{◌≡◌, ℕ, ◌+◌, Bool, true, cond, ◌||◌, List, [], ◌∷◌, Some, None, Ok, Err, Option, Result, ◌==◌, ◌≢◌}
+use Rattle.std.specs.Prelude.{◌≡◌, ℕ, ◌+◌, true, cond, ◌||◌, List, [], ◌∷◌, Some, None, Ok, Err, Option, Result, ◌==◌, ◌≢◌}
 use Rattle.metrics.specs.Meaning.{Meaning, missing}
 use Rattle.metrics.specs.declared.fault.MissingGlyph.{MissingGlyph}
 use Rattle.page.specs.Texts.{seen, newline}

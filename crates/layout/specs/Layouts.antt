@@ -1,5 +1,5 @@
 -- All rows of a text, and when there are too many.
-use Rattle.std.specs.Prelude.{ℕ, zero, suc, ◌+◌, List, [], ◌∷◌, length, Some, None, Ok, Err, Option, Result}
+use Rattle.std.specs.Prelude.{ℕ, zero, suc, ◌+◌, List, [], ◌∷◌, length, Some, None, Ok, Err, Result}
 use Rattle.metrics.specs.Meaning.{Meaning}
 use Rattle.layout.specs.Covers.{told}
 use Rattle.page.specs.Policies.{Rules}

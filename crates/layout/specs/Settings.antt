@@ -1,5 +1,5 @@
 -- Setting a text: its rows, or why it is refused.
-use Rattle.std.specs.Prelude.{◌≡◌, ℕ, ◌<◌, ◌≤◌, true, false, List, [], ◌∷◌, length, Some, None, Ok, Err, Option, Result, ◌≢◌}
+use Rattle.std.specs.Prelude.{◌≡◌, ℕ, ◌<◌, ◌≤◌, true, false, List, [], length, Some, None, Ok, Err, Option, Result, ◌≢◌}
 use Rattle.metrics.specs.Meaning.{Meaning, missing}
 use Rattle.layout.specs.Covers.{Covered, first_uncovered}
 use Rattle.layout.specs.FirstFit.{RowsFrom}

@@ -1,5 +1,5 @@
 -- What holds of rows by first fit, in words that name no scan.
-use Rattle.std.specs.Prelude.{◌≡◌, ℕ, ◌+◌, ◌<◌, ◌≤◌, List, [], ◌∷◌, ◌++◌, map, length, drop, Some, None, Ok, Err, Result, ◌≢◌}
+use Rattle.std.specs.Prelude.{◌≡◌, ℕ, ◌+◌, ◌<◌, ◌≤◌, List, [], ◌∷◌, ◌++◌, map, length, drop, Some, Ok, Err, Result, ◌≢◌}
 use Rattle.metrics.specs.Meaning.{Meaning}
 use Rattle.layout.specs.Covers.{Covered, first_uncovered}
 use Rattle.layout.specs.FirstFit.{RowFrom, RowsFrom}

@@ -1,5 +1,5 @@
 -- Edges and widths of a row's characters.
-use Rattle.std.specs.Prelude.{ℕ, ◌+◌, Bool, cond, List, [], ◌∷◌, reverse, Some, None, Option}
+use Rattle.std.specs.Prelude.{ℕ, ◌+◌, cond, List, [], ◌∷◌, reverse, Some, None, Option}
 use Rattle.metrics.specs.Meaning.{Meaning}
 use Rattle.page.specs.Policies.{Rules}
 

@@ -1,5 +1,5 @@
 -- A row drawn character by character.
-use Rattle.std.proofs.Common.{◌≡◌, ℕ, ◌+◌, ◌-◌, ◌<◌, ◌≤◌, List, [], ◌∷◌, ◌++◌, length, get_or, drop, Some, None, codes, Option, unwrap_or, sym, refl, ap, ◌∙◌, add-zero, add-one, arith, Bor}
+use Rattle.std.proofs.Common.{◌≡◌, ℕ, ◌+◌, ◌-◌, ◌<◌, ◌≤◌, List, [], ◌++◌, length, get_or, drop, Some, None, codes, Option, unwrap_or, sym, refl, ap, ◌∙◌, add-zero, add-one, arith, Bor}
 use lib.Utf8.{encode}
 use Rattle.std.proofs.lemmas.List.{append_assoc, drop_more, drop_all, drop-drop, get_or-drop, get_or_past, get_or_read, length-append, length-replicate}
 use Rattle.std.proofs.lemmas.Bool.{lt-ltb, le-ltb}

@@ -1,5 +1,5 @@
 -- A screen that follows the records.
-use Rattle.std.specs.Prelude.{ℕ, ◌+◌, Bool, cond, List, [], ◌∷◌, ◌++◌, map, take, drop}
+use Rattle.std.specs.Prelude.{ℕ, ◌+◌, cond, List, [], ◌∷◌, ◌++◌, map, take, drop}
 use Rattle.metrics.specs.Meaning.{Meaning}
 use Rattle.layout.specs.Widths.{edges as edges-of}
 use Rattle.page.specs.Texts.{part}

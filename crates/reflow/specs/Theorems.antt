@@ -1,5 +1,5 @@
 -- What holds of the rows before and after an edit.
-use Rattle.std.specs.Prelude.{◌≡◌, ℕ, suc, ◌+◌, ◌-◌, ◌<◌, ◌≤◌, true, false, List, [], ◌∷◌, ◌++◌, map, length, take, drop, slice_index_or}
+use Rattle.std.specs.Prelude.{◌≡◌, ℕ, ◌+◌, ◌-◌, ◌<◌, ◌≤◌, List, map, length, take, drop, slice_index_or}
 use Rattle.metrics.specs.Meaning.{Meaning}
 use Rattle.page.specs.Policies.{Rules}
 use Rattle.page.specs.declared.row.Row.{Row}

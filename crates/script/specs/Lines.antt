@@ -1,5 +1,5 @@
 -- The lines of a script.
-use Rattle.std.specs.Prelude.{◌≡◌, ℕ, cond, List, [], ◌∷◌, ◌++◌, Some, ◌==◌, ◌≢◌}
+use Rattle.std.specs.Prelude.{ℕ, cond, List, [], ◌∷◌, ◌++◌, Some, ◌==◌, ◌≢◌}
 use Rattle.page.specs.Texts.{newline, seen}
 
 -- one more byte at the front of the first line; where there is none yet, the byte is the script's last

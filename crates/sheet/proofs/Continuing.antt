@@ -1,6 +1,5 @@
 -- A sheet that follows a clean one goes on following it.
 use Rattle.std.proofs.Common.{◌≡◌, ℕ, ◌≤◌, List, [], ◌∷◌, ◌++◌, length, Some, None, Option, sym, refl, ap, ◌∙◌, subst, ap₂}
-use Rattle.metrics.specs.Meaning.{Meaning}
 use Rattle.page.specs.Texts.{most_characters}
 use Rattle.page.specs.declared.row.Row.{Row}
 use Rattle.layout.specs.Covers.{Covered}
@@ -8,7 +7,7 @@ use Rattle.layout.specs.FirstFit.{RowsFrom}
 use Rattle.layout.specs.Layouts.{most_rows}
 use Rattle.reflow.proofs.AllRows.{all_rows}
 use Rattle.reflow.specs.Repaints.{repaint_same}
-use Rattle.reflow.specs.Screens.{Shown, painted, followed}
+use Rattle.reflow.specs.Screens.{painted, followed}
 use Rattle.reflow.specs.declared.repaint.Repaint.{Repaint}
 use Rattle.sheet.specs.Clean.{Making, Clean, Call, Answer, Step, clean_rows, step, refuse, settle_by}
 use Rattle.sheet.specs.Clean.Answer.{accepted, refused, settled}

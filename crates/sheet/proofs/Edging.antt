@@ -1,5 +1,5 @@
 -- How a clean sheet tells the edges of a row, and that the worked one tells the same.
-use Rattle.std.proofs.Common.{◌≡◌, ℕ, zero, suc, ◌+◌, ◌-◌, ◌<◌, ◌≤◌, true, List, [], ◌∷◌, length, drop, Some, None, Option, sym, refl, ap, ◌∙◌, subst, subst₂, arith, le-leb}
+use Rattle.std.proofs.Common.{◌≡◌, ℕ, zero, suc, ◌+◌, ◌-◌, ◌<◌, ◌≤◌, List, [], ◌∷◌, length, drop, Some, None, Option, sym, ap, ◌∙◌, subst, subst₂, arith, le-leb}
 use borrow.Author.Tests.{lt-leb}
 use Rattle.std.proofs.lemmas.List.{length-take}
 use Rattle.std.specs.List.{slice_get}
@@ -13,7 +13,7 @@ use Rattle.layout.specs.FirstFit.{RowFrom, RowsFrom}
 use Rattle.layout.specs.FirstFit.RowFrom.{whole, wrapped, cut, single, lone}
 use Rattle.layout.specs.FirstFit.RowsFrom.{end, more}
 use Rattle.reflow.proofs.AllRows.{all_rows}
-use Rattle.sheet.specs.Clean.{Making, Clean, Answer, clean_rows}
+use Rattle.sheet.specs.Clean.{Making, Clean, clean_rows}
 use Rattle.sheet.specs.Clean.Answer.{refused, shown}
 use Rattle.sheet.specs.Edges.{measured, edges_by, edges_step}
 use Rattle.sheet.specs.Histories.{History, State, Follows, clean_after}

@@ -1,5 +1,5 @@
 -- How a clean sheet answers a remeasure, and that a sheet which lays its text again goes on following it.
-use Rattle.std.proofs.Common.{◌≡◌, ℕ, ◌+◌, ◌-◌, ◌%◌, ◌^◌, ◌<◌, ◌≤◌, Bool, true, false, leb, List, [], ◌∷◌, length, is_some, is_err, Some, None, Ok, Err, Option, Result, sym, refl, ap, ◌∙◌, subst, ap₂, subst₂, add-zero, arith, le-leb}
+use Rattle.std.proofs.Common.{◌≡◌, ℕ, ◌+◌, ◌-◌, ◌%◌, ◌^◌, ◌<◌, ◌≤◌, true, false, List, [], ◌∷◌, length, is_some, is_err, Some, None, Ok, Err, Result, sym, refl, ap, ◌∙◌, subst, ap₂, add-zero, arith, le-leb}
 use borrow.Author.Tests.{lt-leb}
 use Rattle.metrics.specs.Meaning.{Meaning}
 use Rattle.page.specs.Policies.{Rules}
@@ -14,10 +14,10 @@ use Rattle.reflow.proofs.AllRows.{all_rows}
 use Rattle.reflow.specs.Edits.{rows_of}
 use Rattle.reflow.specs.Repaints.{repaint_all}
 use Rattle.reflow.specs.declared.repaint.Repaint.{Repaint}
-use Rattle.sheet.specs.Clean.{Making, Clean, Step, clean_rows, step, refuse, remeasured, remeasure_step}
+use Rattle.sheet.specs.Clean.{Making, Clean, clean_rows, refuse, remeasured, remeasure_step}
 use Rattle.sheet.specs.Clean.Answer.{accepted, refused}
 use Rattle.sheet.specs.Clean.Call.{remeasure}
-use Rattle.sheet.specs.Histories.{History, State, Follows, clean_after, screen_after, clean_screen, event}
+use Rattle.sheet.specs.Histories.{History, State, Follows, clean_after, event}
 use Rattle.sheet.proofs.Continuing.{Owes, goes_on_by, refused_call}
 use Rattle.sheet.proofs.Replacing.{some_owed}
 

@@ -1,11 +1,10 @@
 -- How a clean sheet answers a replace, and that a sheet which lays the edited text goes on following it.
-use Rattle.std.proofs.Common.{◌≡◌, ℕ, zero, suc, ◌+◌, ◌-◌, ◌<◌, ◌≤◌, Bool, true, false, ◌&&◌, leb, ◌⊎◌, List, [], ◌∷◌, ◌++◌, length, take, drop, is_some, Some, None, Option, sym, refl, ap, ◌∙◌, subst, ap₂, subst₂, inl, inr, arith, le-leb}
+use Rattle.std.proofs.Common.{◌≡◌, ℕ, zero, suc, ◌+◌, ◌-◌, ◌<◌, ◌≤◌, true, false, ◌&&◌, leb, List, [], ◌∷◌, ◌++◌, length, take, drop, is_some, Some, None, Option, sym, refl, ap, ◌∙◌, subst, ap₂, subst₂, inl, inr, arith, le-leb}
 use borrow.Author.Tests.{lt-leb}
 use Rattle.std.proofs.lemmas.List.{length-append, length-take, length-drop}
 use Rattle.std.proofs.lemmas.Bool.{and_from, and_left, and_right, cases_lt}
 use Rattle.metrics.specs.Meaning.{Meaning}
-use Rattle.page.specs.Policies.{Rules}
-use Rattle.page.specs.Texts.{edited, seen, newline, most_characters}
+use Rattle.page.specs.Texts.{edited, most_characters}
 use Rattle.page.specs.declared.row.Row.{Row}
 use Rattle.layout.proofs.Covering.{covered_from}
 use Rattle.layout.proofs.Settling.{covered_from_none}
@@ -17,12 +16,12 @@ use Rattle.layout.specs.declared.laying.LayFault.TheVariants.{NoGlyph, TooManyRo
 use Rattle.reflow.proofs.ReflowTheorems.{reflow_laws}
 use Rattle.reflow.specs.Edits.{rows_of}
 use Rattle.reflow.specs.Repaints.{repaint_of}
-use Rattle.reflow.specs.Screens.{Shown, painted, followed}
+use Rattle.reflow.specs.Screens.{Shown, followed}
 use Rattle.reflow.specs.Theorems.{Editing}
 use Rattle.reflow.specs.declared.repaint.Repaint.{Repaint}
 use Rattle.sheet.specs.Carried.{replace_fault}
 use Rattle.sheet.specs.Faults.{Early}
-use Rattle.sheet.specs.Clean.{Making, Clean, Call, Answer, Step, clean_rows, step, refuse, replaced, replace_step, edit_of}
+use Rattle.sheet.specs.Clean.{Making, Clean, clean_rows, refuse, replaced, replace_step, edit_of}
 use Rattle.sheet.specs.Clean.Answer.{accepted, refused}
 use Rattle.sheet.specs.Clean.Call.{replace}
 use Rattle.sheet.specs.Histories.{History, State, Follows, clean_after, screen_after, clean_screen, due, event}

@@ -1,5 +1,5 @@
 -- How a clean sheet shows a row, and that the worked one shows the same.
-use Rattle.std.proofs.Common.{◌≡◌, ℕ, zero, suc, ◌-◌, ◌<◌, ◌≤◌, true, false, leb, List, [], ◌∷◌, length, Some, None, Option, sym, refl, ap, ◌∙◌, subst, ap₂, arith, le-leb}
+use Rattle.std.proofs.Common.{◌≡◌, ℕ, zero, suc, ◌-◌, ◌<◌, ◌≤◌, List, [], ◌∷◌, length, Some, None, Option, sym, refl, ap, ◌∙◌, subst, arith, le-leb}
 use borrow.Author.Tests.{lt-leb}
 use Rattle.std.specs.List.{slice_get}
 use Rattle.metrics.specs.Meaning.{Meaning}
@@ -10,11 +10,11 @@ use Rattle.layout.specs.FirstFit.{RowFrom, RowsFrom}
 use Rattle.layout.specs.FirstFit.RowsFrom.{end, more}
 use Rattle.reflow.proofs.AllRows.{all_rows}
 use Rattle.reflow.proofs.ScreenBack.{row_upto}
-use Rattle.sheet.specs.Clean.{Making, Clean, Step, clean_rows, step, refuse, show_by, copied}
+use Rattle.sheet.specs.Clean.{Making, Clean, clean_rows, refuse, show_by, copied}
 use Rattle.sheet.specs.Clean.Answer.{refused, shown}
 use Rattle.sheet.specs.Clean.Call.{row}
 use Rattle.sheet.specs.Histories.{History, State, Follows, clean_after, event}
-use Rattle.sheet.proofs.Continuing.{Owes, KeepsUp, goes_on_by, refused_call}
+use Rattle.sheet.proofs.Continuing.{Owes, goes_on_by, refused_call}
 
 -- a row lies within its text
 pub record Inside (t : List ℕ) (r : Row) : Type 0 where

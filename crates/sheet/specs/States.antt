@@ -1,5 +1,5 @@
 -- The state of a sheet.
-use Rattle.std.specs.Prelude.{ℕ, List, vec_items}
+use Rattle.std.specs.Prelude.{vec_items}
 use Rattle.metrics.specs.Meaning.{Meaning}
 use Rattle.page.specs.Policies.{Rules}
 use Rattle.buffer.specs.Held.{held}

@@ -1,7 +1,6 @@
 use Rattle.std.proofs.Common.{refl}
 use Rattle.layout.specs.Layouts.{laid_from}
 use Rattle.layout.specs.Scans.{scan}
-use Rattle.cases.specs.Table.{EditCase, EditHolds}
 use Rattle.cases.proofs.worked_edits.Goals as goal
 
 pub returns : goal.returns

@@ -1,11 +1,11 @@
-use Rattle.std.proofs.Common.{◌≡◌, ℕ, ◌+◌, ◌<◌, List, length, Err, sym, refl, ap, ◌∙◌, arith}
+use Rattle.std.proofs.Common.{◌+◌, length, Err, sym, refl, ap, ◌∙◌, arith}
 use Rattle.std.proofs.lemmas.Bool.{eqb-true, eqb-false}
 use Rattle.lists.specs.Holding.{holding}
 use Rattle.afm.proofs.Runs.{read_ended, read_over}
 use Rattle.afm.proofs.Turns.{Turn, turn_again, turn_refused, turn_file, turn_less}
 use Rattle.afm.specs.Lines.{rest_of, lines}
 use Rattle.afm.specs.Parts.{line}
-use Rattle.afm.specs.Reading.{Outcome, outcome, read_lines, read_font}
+use Rattle.afm.specs.Reading.{Outcome, read_lines, read_font}
 use Rattle.afm.specs.Steps.{Place, Standing, progress, rest}
 use Rattle.afm.specs.declared.fault.AfmFault.TheVariants.{At, Over}
 use Rattle.afm.proofs.font.read_font.Goals as goal

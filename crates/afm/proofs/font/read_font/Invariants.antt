@@ -1,4 +1,4 @@
-use Rattle.std.proofs.Common.{◌≡◌, ◌+◌, ◌-◌, length}
+use Rattle.std.proofs.Common.{◌≡◌, ◌+◌, length}
 use Rattle.lists.specs.Holding.{holding}
 use Rattle.afm.specs.Lines.{lines}
 use Rattle.afm.specs.Reading.{read_lines, read_font}

@@ -1,5 +1,5 @@
 -- Each way out of the scan is one law of the scan at the place that the text was read at.
-use Rattle.std.proofs.Common.{◌≡◌, ℕ, ◌+◌, ◌-◌, ◌*◌, ◌<◌, ◌≤◌, min, length, drop, Some, None, Ok, Err, sym, refl, ap, ◌∙◌, ap₂, arith}
+use Rattle.std.proofs.Common.{◌≡◌, ◌+◌, ◌<◌, ◌≤◌, min, length, Ok, Err, sym, refl, ap, ◌∙◌, ap₂, arith}
 use Rattle.metrics.specs.Meaning.{Meaning, answer}
 use Rattle.layout.specs.Scans.{row_from, taken, over_row}
 use Rattle.page.specs.Texts.{seen}

@@ -1,5 +1,5 @@
 -- Each way is one law of the look for the first uncovered character.
-use Rattle.std.proofs.Common.{◌≡◌, ℕ, ◌+◌, ◌≤◌, length, get_or, drop, Some, None, sym, ap, ◌∙◌}
+use Rattle.std.proofs.Common.{◌≡◌, ◌+◌, get_or, drop, Some, None, sym, ap, ◌∙◌}
 use Rattle.std.proofs.lemmas.List.{drop_more, drop_all}
 use Rattle.metrics.specs.Meaning.{Meaning}
 use Rattle.layout.specs.Covers.{first_uncovered, cover_answer, lacking}

@@ -1,10 +1,10 @@
-use Rattle.std.proofs.Common.{◌≡◌, ℕ, ◌+◌, ◌-◌, ◌<◌, ◌≤◌, min, List, ◌++◌, length, get_or, drop, Some, None, Option, Result, unwrap_or as or_zero, sym, refl, ap, ◌∙◌, arith, length-drop, length-take}
+use Rattle.std.proofs.Common.{◌≡◌, ℕ, ◌+◌, ◌-◌, min, ◌++◌, length, get_or, drop, Some, Option, Result, unwrap_or as or_zero, sym, ap, ◌∙◌, arith, length-drop, length-take}
 use Rattle.std.proofs.lemmas.Option.{slice_get-get_or}
 use Rattle.std.specs.Result.{result_unwrap_or}
 use Rattle.metrics.specs.Meaning.{Meaning, answer}
 use Rattle.metrics.specs.declared.fault.MissingGlyph.{MissingGlyph}
 use Rattle.page.specs.Texts.{seen, part}
-use Rattle.layout.specs.Widths.{edges, edges_from}
+use Rattle.layout.specs.Widths.{edges}
 use Rattle.layout.proofs.EdgeSteps.{seen_part, advance_given, edge_more, rest_more, edges_all}
 use Rattle.layout.proofs.edges.write_edges.Goals as goal
 

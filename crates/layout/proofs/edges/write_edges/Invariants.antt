@@ -1,4 +1,4 @@
-use Rattle.std.proofs.Common.{◌≡◌, ◌*◌, ◌≤◌, ◌++◌, take, drop, None}
+use Rattle.std.proofs.Common.{◌≡◌, ◌*◌, ◌≤◌, ◌++◌, take, drop}
 use Rattle.page.specs.Texts.{part}
 use Rattle.layout.specs.Covers.{AllCovered}
 use Rattle.layout.specs.Widths.{edges, edges_from}

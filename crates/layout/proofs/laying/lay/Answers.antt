@@ -1,5 +1,5 @@
 -- Each way out of the loop is one way that a layout goes on.
-use Rattle.std.proofs.Common.{◌≡◌, ℕ, ◌+◌, ◌-◌, ◌%◌, ◌^◌, ◌<◌, ◌≤◌, min, List, [], ◌∷◌, ◌++◌, length, Some, None, Ok, Err, vec_items, vec_len, sym, refl, ap, ◌∙◌, subst, arith}
+use Rattle.std.proofs.Common.{◌≡◌, ℕ, ◌+◌, ◌-◌, ◌%◌, ◌^◌, ◌<◌, ◌≤◌, min, List, [], ◌∷◌, ◌++◌, length, Some, Ok, Err, vec_items, sym, ap, ◌∙◌, arith}
 use Rattle.std.proofs.lemmas.List.{length_push}
 use Rattle.std.proofs.lemmas.Result.{err_from_is_err_and}
 use Rattle.metrics.specs.Meaning.{Meaning}
@@ -8,7 +8,7 @@ use Rattle.page.specs.Rows.{following}
 use Rattle.layout.specs.Scans.{row_from}
 use Rattle.layout.specs.declared.laying.LayFault.TheVariants.{NoGlyph, TooManyRows}
 use Rattle.page.specs.declared.row.Row.{Row}
-use Rattle.layout.proofs.Following.{Placed, placed}
+use Rattle.layout.proofs.Following.{placed}
 use Rattle.layout.proofs.RowTheorems.{row_laws}
 use Rattle.layout.proofs.LayoutTheorems.{layout_laws}
 use Rattle.layout.proofs.LayoutSteps.{Ended, behind, broke_at, stopped_at_missing, stopped_at_end, goes_on, stopped_full, counted_more}

@@ -1,4 +1,4 @@
-use Rattle.std.proofs.Common.{◌≡◌, ℕ, List, ◌∷◌, ◌++◌, replicate, string_bytes, sym, ap, ◌∙◌, arith, lit<}
+use Rattle.std.proofs.Common.{◌≡◌, ℕ, List, ◌∷◌, ◌++◌, replicate, string_bytes, ap, ◌∙◌, arith, lit<}
 use Rattle.std.proofs.lemmas.List.{replicate_more}
 use Rattle.preview.proofs.lines.rule_line.Goals as goal
 

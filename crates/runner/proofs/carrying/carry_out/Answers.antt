@@ -5,7 +5,7 @@ use Rattle.script.specs.Asked.{asked}
 use Rattle.script.specs.declared.command.Command as code
 use Rattle.script.specs.declared.command.Command.TheVariants.{Measure}
 use Rattle.sheet.specs.Clean.Answer.{accepted, refused, shown}
-use Rattle.sheet.specs.Clean.Call.{replace, remeasure, refresh, row}
+use Rattle.sheet.specs.Clean.Call.{replace, remeasure, refresh}
 use Rattle.sheet.specs.Faults.{replace_told, remeasure_told, row_told}
 use Rattle.sheet.specs.Histories.{clean_after, event}
 use Rattle.sheet.specs.States.{state}

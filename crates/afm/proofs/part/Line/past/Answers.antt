@@ -1,6 +1,4 @@
-use Rattle.std.proofs.Common.{ap}
 use Rattle.std.proofs.lemmas.List.{take_rest}
-use Rattle.afm.specs.Parts.{Part}
 use Rattle.afm.proofs.part.Line.past.Goals as goal
 
 pub returns : goal.returns

@@ -1,4 +1,4 @@
-use Rattle.std.proofs.Common.{◌≡◌, Some, None, ap, ◌∙◌, w16, SFits, rules}
+use Rattle.std.proofs.Common.{Some, ap, ◌∙◌, w16, SFits, rules}
 use Rattle.std.proofs.lemmas.Int.{to_z-of_z}
 use Rattle.afm.specs.Lookups.{named}
 use Rattle.afm.specs.Steps.{new_pair, fresh_pair, fresh_names, fresh_codes}

@@ -1,5 +1,5 @@
 -- Each way out is a way of the clean sheet's edges.
-use Rattle.std.proofs.Common.{◌≡◌, ℕ, ◌-◌, ◌<◌, ◌≤◌, min, List, ◌++◌, length, get_or, drop, Some, None, sym, refl, ap, ◌∙◌, ap₂, subst₂, arith}
+use Rattle.std.proofs.Common.{◌≡◌, ℕ, ◌-◌, List, ◌++◌, length, get_or, drop, sym, refl, ap, ◌∙◌, ap₂, subst₂, arith}
 use Rattle.std.proofs.lemmas.Option.{slice_get-get_or, slice_get_past}
 use Rattle.std.specs.List.{slice_get}
 use Rattle.page.specs.Texts.{part}
@@ -10,7 +10,7 @@ use Rattle.layout.specs.Covers.{AllCovered}
 use Rattle.layout.specs.Widths.{edges as edges-of}
 use Rattle.layout.proofs.EdgeSteps.{length_part}
 use Rattle.sheet.proofs.Edging.{stays, no_row, covers, short_edges, told_edges}
-use Rattle.sheet.proofs.Showing.{Inside, inside}
+use Rattle.sheet.proofs.Showing.{inside}
 use Rattle.sheet.proofs.sheet.Sheet.edges.Goals as goal
 
 pub returns-then-number-rows : goal.returns-then-number-rows

@@ -1,4 +1,4 @@
-use Rattle.std.proofs.Common.{◌≡◌, ℕ, sym, refl, ap, ◌∙◌, arith}
+use Rattle.std.proofs.Common.{◌≡◌, ℕ, refl, arith}
 use Rattle.layout.specs.Layouts.{laid_from}
 use Rattle.layout.specs.Scans.{scan}
 use Rattle.sheet.proofs.sheet.Sheet.new.Goals as goal

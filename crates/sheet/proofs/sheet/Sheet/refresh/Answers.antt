@@ -1,5 +1,4 @@
-use Rattle.std.proofs.Common.{◌≡◌, refl, ◌∙◌}
-use Rattle.sheet.specs.States.{state}
+use Rattle.std.proofs.Common.{refl, ◌∙◌}
 use Rattle.sheet.proofs.Continuing.{refreshed}
 use Rattle.sheet.proofs.sheet.Sheet.refresh.Goals as goal
 

@@ -1,8 +1,6 @@
 -- Each way out is a way of the clean sheet's remeasure.
-use Rattle.std.proofs.Common.{◌≡◌, ℕ, ◌+◌, ◌-◌, ◌%◌, ◌^◌, ◌<◌, ◌≤◌, true, false, List, length, Some, vec_items, vec_len, sym, refl, ap, ◌∙◌, subst, ap₂, subst₂, arith}
-use Rattle.page.specs.declared.row.Row.{Row}
+use Rattle.std.proofs.Common.{◌≡◌, ℕ, ◌+◌, ◌-◌, ◌%◌, ◌^◌, ◌<◌, true, length, Some, vec_items, sym, refl, ap, ◌∙◌, subst₂, arith}
 use Rattle.layout.specs.Covers.{Covered}
-use Rattle.layout.specs.Layouts.{Laid, laid, broken_for, most_rows}
 use Rattle.layout.specs.declared.row_list.RowList.{RowList}
 use Rattle.buffer.specs.Held.{held}
 use Rattle.reflow.specs.Edits.{rows_of}

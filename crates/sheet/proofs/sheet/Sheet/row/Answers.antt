@@ -1,13 +1,12 @@
 -- Each way out is a way of the clean sheet's row.
-use Rattle.std.proofs.Common.{◌≡◌, ℕ, ◌-◌, ◌<◌, ◌≤◌, min, List, ◌++◌, length, get_or, drop, Some, None, sym, refl, ap, ◌∙◌, ap₂, arith}
+use Rattle.std.proofs.Common.{◌≡◌, ℕ, ◌-◌, List, ◌++◌, get_or, drop, sym, refl, ap, ◌∙◌, ap₂, arith}
 use Rattle.std.proofs.lemmas.Option.{slice_get-get_or, slice_get_past}
 use Rattle.std.specs.List.{slice_get}
 use Rattle.page.specs.Texts.{part}
 use Rattle.page.specs.declared.row.Row.{Row}
 use Rattle.buffer.specs.Held.{held}
 use Rattle.reflow.proofs.Meetings.{zero_row}
-use Rattle.sheet.specs.Clean.{copied}
-use Rattle.sheet.proofs.Showing.{Inside, inside, no_such_row, short_buffer, shown_row}
+use Rattle.sheet.proofs.Showing.{inside, no_such_row, short_buffer, shown_row}
 use Rattle.sheet.proofs.sheet.Sheet.row.Goals as goal
 
 pub returns-then-number-rows : goal.returns-then-number-rows

@@ -1,4 +1,4 @@
-use Rattle.std.proofs.Common.{◌≡◌, sym, refl, ◌∙◌}
+use Rattle.std.proofs.Common.{sym, refl}
 use Rattle.sheet.proofs.Continuing.{settled_call, unsettled_call}
 use Rattle.sheet.proofs.sheet.Sheet.settle.Goals as goal
 
