@@ -1,7 +1,7 @@
 // The edges of a row's characters.
 ghost use Rattle.std.specs.Prelude.{◌≡◌, ◌≤◌, ◌++◌, length, drop};
 ghost use Rattle.layout.specs.Covers.{AllCovered};
-ghost use Rattle.layout.specs.Widths.{edges as edges-of};
+ghost use Rattle.layout.specs.Widths.{edges as edges_of};
 ghost use Rattle.page.specs.Texts.{part};
 
 use metrics::measurer::Measurer;
@@ -18,7 +18,7 @@ pub fn write_edges<T: Characters, M: Measurer>(
 )
     ensures same { M.meaning measurer.new ≡ M.meaning measurer.old }
     ensures stays { M.sound measurer.old → M.sound measurer.new }
-    ensures value { M.sound measurer.old → AllCovered (M.meaning measurer.old) (part (T.chars text.now) start end) → length (part (T.chars text.now) start end) ≤ length edges.old → edges.new ≡ edges-of (M.meaning measurer.old) (part (T.chars text.now) start end) ++ drop (length (part (T.chars text.now) start end)) edges.old }
+    ensures value { M.sound measurer.old → AllCovered (M.meaning measurer.old) (part (T.chars text.now) start end) → length (part (T.chars text.now) start end) ≤ length edges.old → edges.new ≡ edges_of (M.meaning measurer.old) (part (T.chars text.now) start end) ++ drop (length (part (T.chars text.now) start end)) edges.old }
 {
     let count = end.min(text.len()).saturating_sub(start).min(edges.len());
     let mut before = None;

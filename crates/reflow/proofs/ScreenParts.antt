@@ -7,7 +7,7 @@ use Rattle.page.specs.Texts.{part}
 use Rattle.page.specs.declared.ending.Ending.{Ending}
 use Rattle.page.specs.declared.row.Row.{Row}
 use Rattle.page.specs.Texts.{edited}
-use Rattle.layout.specs.Widths.{edges as edges-of}
+use Rattle.layout.specs.Widths.{edges as edges_of}
 use Rattle.reflow.specs.Screens.{shown}
 
 -- a part that ends within the first of two lists
@@ -53,5 +53,5 @@ module _ (t ins : List ℕ) (at del : ℕ) (within : at + del ≤ length t) wher
 -- rows with the same characters and ending are shown alike
 pub shown_alike : (m : Meaning) (t t' : List ℕ) (r r' : Row) → part t r.start r.end ≡ part t' r'.start r'.end → r.ending ≡ r'.ending → shown m t r ≡ shown m t' r'
 shown_alike m t t' r r' p g =
-    ap (λ (cs : List ℕ). record { chars = cs; edges = edges-of m cs; ending = r.ending }) p
-    ∙ ap (λ (g : Ending). record { chars = part t' r'.start r'.end; edges = edges-of m (part t' r'.start r'.end); ending = g }) g
+    ap (λ (cs : List ℕ). record { chars = cs; edges = edges_of m cs; ending = r.ending }) p
+    ∙ ap (λ (g : Ending). record { chars = part t' r'.start r'.end; edges = edges_of m (part t' r'.start r'.end); ending = g }) g

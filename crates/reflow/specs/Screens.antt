@@ -1,7 +1,7 @@
 -- A screen that follows the records.
 use Rattle.std.specs.Prelude.{ℕ, ◌+◌, cond, List, [], ◌∷◌, ◌++◌, map, take, drop}
 use Rattle.metrics.specs.Meaning.{Meaning}
-use Rattle.layout.specs.Widths.{edges as edges-of}
+use Rattle.layout.specs.Widths.{edges as edges_of}
 use Rattle.page.specs.Texts.{part}
 use Rattle.page.specs.declared.ending.Ending.{Ending}
 use Rattle.page.specs.declared.ending.Ending.TheVariants.{End}
@@ -15,7 +15,7 @@ pub record Shown : Type 0 where
   pub ending : Ending
 
 abbrev pub shown : Meaning → List ℕ → Row → Shown
-shown m t r = record { chars = part t r.start r.end; edges = edges-of m (part t r.start r.end); ending = r.ending }
+shown m t r = record { chars = part t r.start r.end; edges = edges_of m (part t r.start r.end); ending = r.ending }
 
 -- all rows of a sheet, painted
 abbrev pub painted : Meaning → List ℕ → List Row → List Shown

@@ -9,7 +9,7 @@ use Rattle.metrics.specs.Meaning.{Meaning}
 use Rattle.page.specs.Texts.{part, most_characters}
 use Rattle.page.specs.declared.row.Row.{Row}
 use Rattle.layout.specs.Widths.{edges_from}
-use Rattle.reflow.specs.Screens.{shown as Shown-of}
+use Rattle.reflow.specs.Screens.{shown as shown_of}
 use Rattle.sheet.specs.Clean.{Making, Clean, clean_rows, show_by, copied}
 use Rattle.sheet.specs.Clean.Answer.{refused, shown}
 use Rattle.sheet.specs.Edges.{edges_by, measured}
@@ -63,8 +63,8 @@ length-edges m e p (c ∷ cs) = ap suc (length-edges m (e + m.adv p c) (Some c) 
 
 module _ (k : Making) (h : History) (s : State) (f : Follows k h s) (i : ℕ) where
   -- the row, where the clean sheet has it
-  at_screen : (o : Option Row) → slice_get (clean_rows k (clean_after k h)) i ≡ o → slice_get (clean_screen k (clean_after k h)) i ≡ option_map (Shown-of k.meaning (clean_after k h).text) o
-  at_screen o e = slice_get-map (Shown-of k.meaning (clean_after k h).text) (clean_rows k (clean_after k h)) i ∙ ap (option_map (Shown-of k.meaning (clean_after k h).text)) e
+  at_screen : (o : Option Row) → slice_get (clean_rows k (clean_after k h)) i ≡ o → slice_get (clean_screen k (clean_after k h)) i ≡ option_map (shown_of k.meaning (clean_after k h).text) o
+  at_screen o e = slice_get-map (shown_of k.meaning (clean_after k h).text) (clean_rows k (clean_after k h)) i ∙ ap (option_map (shown_of k.meaning (clean_after k h).text)) e
 
   lies : (r : Row) → slice_get (clean_rows k (clean_after k h)) i ≡ Some r → Inside (clean_after k h).text r
   lies r e = subst (λ (t : List ℕ). Inside t r) f.text (inside k h s f i [] r (ap (λ (rs : List Row). slice_get rs i) f.rows ∙ e))

@@ -4,13 +4,13 @@ use Rattle.std.specs.List.{slice_get}
 use Rattle.metrics.specs.Meaning.{Meaning}
 use Rattle.page.specs.Texts.{part}
 use Rattle.page.specs.declared.row.Row.{Row}
-use Rattle.layout.specs.Widths.{edges as edges-of}
+use Rattle.layout.specs.Widths.{edges as edges_of}
 use Rattle.sheet.specs.Clean.{Making, Clean, Answer, clean_rows}
 use Rattle.sheet.specs.Clean.Answer.{refused, shown}
 
 -- the edges of a row at the front of the slice
 abbrev pub measured : Meaning → List ℕ → Row → List ℕ → List ℕ
-measured m t r edges = edges-of m (part t r.start r.end) ++ drop (r.end - r.start) edges
+measured m t r edges = edges_of m (part t r.start r.end) ++ drop (r.end - r.start) edges
 
 abbrev pub edges_by : Making → Clean → Option Row → List ℕ → Answer
 edges_by k c None edges = refused (8 ∷ [])

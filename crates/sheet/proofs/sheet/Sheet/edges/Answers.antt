@@ -7,7 +7,7 @@ use Rattle.page.specs.declared.row.Row.{Row}
 use Rattle.buffer.specs.Held.{held}
 use Rattle.reflow.proofs.Meetings.{zero_row}
 use Rattle.layout.specs.Covers.{AllCovered}
-use Rattle.layout.specs.Widths.{edges as edges-of}
+use Rattle.layout.specs.Widths.{edges as edges_of}
 use Rattle.layout.proofs.EdgeSteps.{length_part}
 use Rattle.sheet.proofs.Edging.{stays, no_row, covers, short_edges, told_edges}
 use Rattle.sheet.proofs.Showing.{inside}
@@ -63,8 +63,8 @@ returns g c =
           let long : length (part t c.min-start.result c.min-end.result) ≡ r.end - r.start = length_part t c.min-start.result c.min-end.result (omega (arith, lies.within, to)) ∙ ap₂ ◌-◌ to from in
           told_edges k h _ f i b r there c.write_edges.new.edges
           (c.write_edges.ensures.value f.sound covered (omega (arith, long, c.if-end-start.false, to, from))
-          ∙ ap (λ (n : ℕ). edges-of m (part t c.min-start.result c.min-end.result) ++ drop n b) long
-          ∙ ap₂ (λ (x y : ℕ). edges-of m (part t x y) ++ drop (r.end - r.start) b) from to)
+          ∙ ap (λ (n : ℕ). edges_of m (part t c.min-start.result c.min-end.result) ++ drop n b) long
+          ∙ ap₂ (λ (x y : ℕ). edges_of m (part t x y) ++ drop (r.end - r.start) b) from to)
           (omega (arith, c.if-end-start.false, to, from));
       kept = tt;
       counted = refl;
