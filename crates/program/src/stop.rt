@@ -1,4 +1,7 @@
 // How a program stops short, in words.
+ghost use Rattle.std.specs.Prelude.{◌≡◌, MatchResult};
+ghost use Rattle.std.specs.Process.{exit_status};
+
 use afm::fault::{AfmFault, LineFault};
 use layout::setting::SetFault;
 use metrics::fault::OutOfRange;
@@ -9,6 +12,7 @@ use runner::fault::ListFull;
 use runner::replay::ReplayFault;
 use sheet::fault::ReplaceFault;
 use std::alloc::AllocError;
+use std::process::ExitCode;
 use std::{fmt, io};
 use typing::fault::{KeyFault, Stopped};
 
@@ -48,6 +52,19 @@ impl Stop {
             _ => program,
         }
     }
+}
+
+// Says on standard error why a program stops short, if it does, and answers the status that it ends
+// with. The status is the same where nothing can be written there.
+pub fn ended(rt: &HostRuntime, program: &str, outcome: Result<(), Stop>) -> ExitCode
+    ensures { MatchResult outcome (λ _. exit_status result ≡ 0) (λ _. exit_status result ≡ 1) }
+{
+    let Err(stop) = outcome else {
+        return ExitCode::SUCCESS;
+    };
+    let who = stop.prefix(program);
+    let _said = eprintln!(rt; "{who}{stop}");
+    ExitCode::FAILURE
 }
 
 impl From<io::Error> for Stop {

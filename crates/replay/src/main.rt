@@ -10,7 +10,7 @@ use page::measure::Measure;
 use page::policy::{Anywhere, Policy, Spaces};
 use program::font_file;
 use program::options::{Breaks, Options, all_or_none, input};
-use program::stop::Stop;
+use program::stop::{Stop, ended};
 use runner::replay::replay;
 use runner::run::MAX_SCRIPT;
 use std::io::Write;
@@ -80,12 +80,6 @@ fn show(rt: &HostRuntime) -> Result<(), Stop> {
     list_by(rt, pile(font, cells, units), breaks, measure)
 }
 
-// The status tells how it went, also where nothing can be written.
 fn main(rt: HostRuntime) -> ExitCode {
-    let Err(stop) = show(&rt) else {
-        return ExitCode::SUCCESS;
-    };
-    let who = stop.prefix("replay: ");
-    let _said = eprintln!(rt; "{who}{stop}");
-    ExitCode::FAILURE
+    ended(&rt, "replay: ", show(&rt))
 }

@@ -12,7 +12,7 @@ use preview::drawing::{Column, framed_row, unhung};
 use preview::lines::{row_line, rule_line, spelt};
 use program::font_file;
 use program::options::{Breaks, Options, from_args, input};
-use program::stop::Stop;
+use program::stop::{Stop, ended};
 use screen::screen::Screen;
 use sheet::sheet::Sheet;
 use std::io;
@@ -123,12 +123,6 @@ fn run(rt: &HostRuntime) -> Result<(), Stop> {
     show_by(rt, &text, measurer, breaks, measure, Column::HalfCell)
 }
 
-// The status tells how it went, also where nothing can be written.
 fn main(rt: HostRuntime) -> ExitCode {
-    let Err(stop) = run(&rt) else {
-        return ExitCode::SUCCESS;
-    };
-    let who = stop.prefix("typist: ");
-    let _said = eprintln!(rt; "{who}{stop}");
-    ExitCode::FAILURE
+    ended(&rt, "typist: ", run(&rt))
 }
