@@ -6,7 +6,7 @@ use Rattle.std.specs.Ordering.{eq_by_cmp, is_eq, ordering_then, nat_cmp}
 use Rattle.std.specs.BTreeMap.{BTreeMap, Updates}
 use Rattle.metrics.specs.declared.entry.Glyph.{Glyph}
 use Rattle.metrics.specs.declared.entry.KernPair.{KernPair}
-use Rattle.fonts.specs.Font.{is_code, width_in, kern_in, width_at, kern_at}
+use Rattle.fonts.specs.Font.{is_code, width_in, kern_in, width_at, kern_at, pair_cmp}
 
 either : {V : Type 0} → Option V → Option V → Option V
 either None o = o
@@ -97,7 +97,7 @@ is_equal_then Less s = refl
 is_equal_then Equal s = refl
 is_equal_then Greater s = refl
 
-tied_pairs : (p c q d : ℕ) → eq_by_cmp (λ (x y : ℕ × ℕ). ordering_then (nat_cmp x.0 y.0) (nat_cmp x.1 y.1)) (p, c) (q, d) ≡ (eqb p q && eqb c d)
+tied_pairs : (p c q d : ℕ) → eq_by_cmp pair_cmp (p, c) (q, d) ≡ (eqb p q && eqb c d)
 tied_pairs p c q d = is_equal_then (nat_cmp p q) (nat_cmp c d) ∙ ap (λ b. b && eq_by_cmp nat_cmp c d) (unsigned_tied p q) ∙ ap (λ b. eqb p q && b) (unsigned_tied c d)
 
 module _ (ks : List KernPair) (k : KernPair) (p c : ℕ) where
@@ -118,7 +118,7 @@ module _ (m : BTreeMap (ℕ × ℕ) ℤ) (ks : List KernPair) (k : KernPair) (ta
   kerns_kept there p c = table p c ∙ sym (kern_kept ks k p c (λ yes. ap is_some (sym (table p c) ∙ same_key p c yes m) ∙ there))
 
   pub kerns_put : (n : BTreeMap (ℕ × ℕ) ℤ) (kern : ℤ) → kern ≡ k.kern → is_some (kern_at m k.first k.second) ≡ false
-      → Updates (λ x y. ordering_then (nat_cmp x.0 y.0) (nat_cmp x.1 y.1)) m n (k.first, k.second) (Some kern) → (p c : ℕ) → kern_at n p c ≡ kern_in (ks ++ k ∷ []) p c
+      → Updates pair_cmp m n (k.first, k.second) (Some kern) → (p c : ℕ) → kern_at n p c ≡ kern_in (ks ++ k ∷ []) p c
   kerns_put n kern same free put p c =
       ⊎_elim
       (λ yes. same_key p c yes n ∙ put.1 ∙ ap (λ z. Some z) same ∙ sym (kern_new ks k p c yes (ap is_some (sym (table p c) ∙ same_key p c yes m) ∙ free)))

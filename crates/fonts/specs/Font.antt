@@ -8,6 +8,7 @@ use Rattle.metrics.specs.declared.entry.KernPair.{KernPair}
 use Rattle.metrics.specs.Limits.{cut}
 use Rattle.metrics.specs.Meaning.{Meaning, most_advance}
 use Rattle.std.specs.Ordering.{nat_cmp, ordering_then}
+use Rattle.std.specs.declared.cmp.Ordering.{Ordering}
 
 -- width plus kern after a predecessor, the width alone at a row's start
 abbrev pub kerned : ℕ → (ℕ → ℤ) → Option ℕ → ℕ
@@ -48,14 +49,17 @@ font_meaning glyphs kerns = lettered (width_in glyphs) (kern_in kerns)
 abbrev pub width_at : List (Option ℕ) → ℕ → Option ℕ
 width_at widths c = slice_index_or widths c None
 
-module _ where
-  -- the kern of p and c in a map by pair
-  abbrev pub kern_at : BTreeMap (ℕ × ℕ) ℤ → ℕ → ℕ → Option ℤ
-  kern_at kerns p c = tree.get (λ x y. ordering_then (nat_cmp x.0 y.0) (nat_cmp x.1 y.1)) kerns (p, c)
+-- how pairs compare: by their first characters, and where those are the same by their second
+abbrev pub pair_cmp : ℕ × ℕ → ℕ × ℕ → Ordering
+pair_cmp x y = ordering_then (nat_cmp x.0 y.0) (nat_cmp x.1 y.1)
 
-  -- the pairs are in order, so that they can be found
-  abbrev pub Searchable : BTreeMap (ℕ × ℕ) ℤ → Type 0
-  Searchable kerns = tree.IsOrdered (λ x y. ordering_then (nat_cmp x.0 y.0) (nat_cmp x.1 y.1)) kerns
+-- the kern of p and c in a map by pair
+abbrev pub kern_at : BTreeMap (ℕ × ℕ) ℤ → ℕ → ℕ → Option ℤ
+kern_at kerns p c = tree.get pair_cmp kerns (p, c)
 
-  abbrev pub table_meaning : List (Option ℕ) → BTreeMap (ℕ × ℕ) ℤ → Meaning
-  table_meaning widths kerns = lettered (width_at widths) (kern_at kerns)
+-- the pairs are in order, so that they can be found
+abbrev pub Searchable : BTreeMap (ℕ × ℕ) ℤ → Type 0
+Searchable kerns = tree.IsOrdered pair_cmp kerns
+
+abbrev pub table_meaning : List (Option ℕ) → BTreeMap (ℕ × ℕ) ℤ → Meaning
+table_meaning widths kerns = lettered (width_at widths) (kern_at kerns)

@@ -58,8 +58,8 @@ impl Scan {
 
     // The scan once `c`, of that advance, is taken into the row.
     pub fn taken<P: Policy>(&self, policy: &P, c: u8, advance: u16) -> Scan
-        requires place_lt_most_characters { self.now.place < most_characters }
-        requires advance_bound { self.now.edge + advance < 2 ^ 32 }
+        requires room { self.now.place < most_characters }
+        requires edge_fits { self.now.edge + advance < 2 ^ 32 }
         ensures { result ≡ taken (P.rules policy.now) self.now c advance }
     {
         let edge = self.edge + u32::from(advance);
@@ -91,8 +91,8 @@ impl Scan {
     // The row, where the next character does not fit: `with` is the scan with it, and `follows` what
     // stands behind it.
     pub fn over(&self, with: &Scan, follows: Option<u8>) -> Row
-        requires place_lt_most_characters { self.now.place < most_characters }
-        requires place_value { with.now.place ≡ self.now.place + 1 }
+        requires room { self.now.place < most_characters }
+        requires one_further { with.now.place ≡ self.now.place + 1 }
         ensures { result ≡ over_row self.now with.now follows }
     {
         if let Some(last) = with.last {

@@ -17,7 +17,7 @@ pub struct Cells {
 
 impl Cells {
     pub fn new(size: u32) -> Result<Cells, OutOfRange>
-        ensures value { MatchResult result (λ cells. CellSizes size × (cells.size ≡ size)) (λ e. (CellSizes size → ⊥) × (number e ≡ 17)) }
+        ensures value { MatchResult result (λ cells. CellSizes size × (cells.size ≡ size)) (λ e. (CellSizes size → ⊥) × (e ≡ OutOfRange.CellSize) × (number e ≡ 17)) }
         ensures sound { IfOk result (λ cells. ⟦<Cells as Measurer>⟧.sound cells) }
     {
         match size {

@@ -61,7 +61,7 @@ over-requires g c =
     let t = g.T.Characters.chars c.args.text.now in
     let within : c.scan.scan.place < length t = seen_within t _ _ (sym c.in-Some.ensures) in
     let few = c.len.ensures.few in
-    record { place_lt_most_characters = omega arith; place_value = ap (λ (x : Scan). x.place) c.taken-next.ensures }
+    record { room = omega arith; one_further = ap (λ (x : Scan). x.place) c.taken-next.ensures }
 
 pub returns-then-next-units : goal.returns-then-next-units
 returns-then-next-units g c =
