@@ -1,22 +1,6 @@
 -- A pile of layers: advance cache over tracking over fallback over font and cells.
 use Rattle.std.specs.Prelude.{◌≡◌, ℕ, [], ◌∷◌, ℤ, pos, negsuc, Some, None, Ok, Err}
-use mir.Syntax.{Dict}
 use Rattle.metrics.specs.declared.entry.Glyph.{Glyph}
-use Rattle.layers.specs.declared.cache.AdvanceCache.{AdvanceCache}
-use Rattle.metrics.specs.declared.cells.Cells.{Cells}
-use Rattle.layers.specs.declared.fallback.Fallback.{Fallback}
-use Rattle.fonts.specs.declared.font.Font.{Font}
-use Rattle.metrics.specs.declared.measurer.Measurer.{Ghosts}
-use Rattle.layers.specs.declared.tracking.Tracking.{Tracking}
-use Rattle.metrics.specs.contracts.cells.Cells.{the_row as cells_row}
-use Rattle.fonts.specs.contracts.font.Font.{the_row as font_row}
-use Rattle.layers.specs.contracts.fallback.Fallback.{the_row as fallback_row}
-use Rattle.layers.specs.contracts.tracking.Tracking.{the_row as tracking_row}
-use Rattle.metrics.specs.contracts.cells.CellsMeasurer.TheImpl as cells_impl
-use Rattle.fonts.specs.contracts.font.FontMeasurer.TheImpl as font_impl
-use Rattle.layers.specs.contracts.fallback.FallbackMeasurer.TheImpl as fallback_impl
-use Rattle.layers.specs.contracts.tracking.TrackingMeasurer.TheImpl as tracking_impl
-use Rattle.layers.specs.contracts.cache.AdvanceCacheMeasurer.TheImpl as cache_impl
 use Rattle.layers.specs.Cache.{cached}
 use Rattle.metrics.specs.Cells.{cells_meaning}
 use Rattle.layers.specs.Fallback.{fallen_back}
@@ -27,22 +11,6 @@ use Rattle.layers.specs.Tracking.{tracked}
 -- the layers over a font and cells of size w, tracked by t
 abbrev pub piled : Meaning → ℕ → ℤ → Meaning
 piled font w t = cached (tracked t (fallen_back font (cells_meaning w)))
-
--- what the implementations of the layers give for the meaning and the soundness of a pile
-abbrev fallback : Ghosts (Fallback Font Cells)
-fallback = fallback_impl.ghosts font_row cells_row font_impl.ghosts font_impl.dict cells_impl.ghosts cells_impl.dict
-
-abbrev fallback_dict : Dict
-fallback_dict = fallback_impl.dict font_row cells_row font_impl.ghosts font_impl.dict cells_impl.ghosts cells_impl.dict
-
-abbrev tracking : Ghosts (Tracking (Fallback Font Cells))
-tracking = tracking_impl.ghosts (fallback_row font_row cells_row) fallback fallback_dict
-
-abbrev tracking_dict : Dict
-tracking_dict = tracking_impl.dict (fallback_row font_row cells_row) fallback fallback_dict
-
-abbrev pub pile_measurer : Ghosts (AdvanceCache (Tracking (Fallback Font Cells)))
-pile_measurer = cache_impl.ghosts (tracking_row (fallback_row font_row cells_row)) tracking tracking_dict
 
 -- ---- a worked example: space 100, a 600, b 1200, c 300, b after a space drawn back by 1200
 

@@ -3,6 +3,7 @@ ghost use Rattle.std.specs.Prelude.{◌≡◌, ℕ, pos, IfOk, Some, None};
 ghost use Rattle.std.specs.Option.{unwrap_or};
 ghost use Rattle.fonts.specs.Font.{width_in, kern_in, font_meaning, width_at, kern_at, Searchable, table_meaning};
 ghost use Rattle.std.proofs.Common.{rules};
+ghost use Rattle.std.proofs.Props.{props};
 
 use metrics::entry::{Glyph, KernPair};
 use metrics::fault::MissingGlyph;
@@ -15,12 +16,13 @@ use std::collections::BTreeMap;
 pub struct Font {
     widths: [Option<u16>; 256],
     kerns: BTreeMap<(u8, u8), i16>,
+    ghost searchable: { Searchable kerns } by { Prim.hlevel props },
 }
 
 impl Font {
     // Of the entries for one code, and of those for one pair, the first counts.
     pub fn new(heap: Global, glyphs: &[Glyph], kerns: &[KernPair]) -> Result<Font, AllocError>
-        ensures { IfOk result (λ font. Searchable font.kerns × (table_meaning font.widths font.kerns ≡ font_meaning glyphs.now kerns.now)) }
+        ensures { IfOk result (λ font. table_meaning font.widths font.kerns ≡ font_meaning glyphs.now kerns.now) }
     {
         Ok(Font {
             widths: widths_by_code(glyphs),
@@ -29,7 +31,7 @@ impl Font {
     }
 
     fn kern(&self, p: u8, c: u8) -> i16
-        ensures { Searchable self.now.kerns → result ≡ unwrap_or (kern_at self.now.kerns p c) (pos 0) }
+        ensures { result ≡ unwrap_or (kern_at self.now.kerns p c) (pos 0) }
     {
         self.kerns.get(&(p, c)).copied().unwrap_or(0)
     }
@@ -67,8 +69,6 @@ fn kerns_by_pair(heap: Global, pairs: &[KernPair]) -> Result<BTreeMap<(u8, u8), 
 impl Measurer for Font {
     ghost meaning = { λ font. table_meaning font.widths font.kerns };
 
-    ghost sound = { λ font. Searchable font.kerns };
-
     ghost bounded = { Prim.search rules };
 
     fn covers(&mut self, c: u8) -> bool {
@@ -76,10 +76,9 @@ impl Measurer for Font {
     }
 
     fn advance(&mut self, before: Option<u8>, c: u8) -> Result<u16, MissingGlyph> {
-        let Some(width) = self.widths[c as usize] else {
-            return Err(MissingGlyph { code: c, depth: 0 });
-        };
-        let width = width.min(MAX_ADVANCE);
+        let width = self.widths[c as usize]
+            .ok_or(MissingGlyph { code: c, depth: 0 })?
+            .min(MAX_ADVANCE);
         match before {
             None => Ok(width),
             Some(p) => Ok(cut(i32::from(width) + i32::from(self.kern(p, c)))),

@@ -1,9 +1,9 @@
 // The layers piled up: advance cache over tracking over fallback over font and cells.
 ghost use Rattle.std.specs.Prelude.{◌≡◌, replicate, IfOk, None};
 ghost use Rattle.layers.specs.Cache.{most_held};
-ghost use Rattle.fonts.specs.Font.{font_meaning, table_meaning, Searchable};
+ghost use Rattle.fonts.specs.Font.{font_meaning, table_meaning};
 ghost use Rattle.metrics.specs.Meaning.{answer};
-ghost use Rattle.fonts.specs.Pile.{piled, pile_measurer, Worked};
+ghost use Rattle.fonts.specs.Pile.{piled, Worked};
 
 use crate::font::Font;
 use layers::cache::AdvanceCache;
@@ -23,8 +23,7 @@ pub fn pile(font: Font, cells: Cells, units: TrackingUnits) -> Pile
     ensures cells { result.below.below.second ≡ cells }
     ensures units { result.below.units ≡ units }
     ensures held { result.pairs.slots ≡ replicate most_held None }
-    ensures meaning { pile_measurer.meaning result ≡ piled (table_meaning font.widths font.kerns) cells.size units.value }
-    ensures sound { Searchable font.kerns → pile_measurer.sound result }
+    ensures meaning { ⟦<Pile as Measurer>⟧.meaning result ≡ piled (table_meaning font.widths font.kerns) cells.size units.value }
     ensures worked { Worked }
 {
     AdvanceCache::new(Tracking::new(Fallback::new(font, cells), units))

@@ -1,13 +1,11 @@
 -- What the slots of an advance cache hold, before and after one of them is filled.
-use Rattle.std.proofs.Common.{◌≡◌, ℕ, zero, suc, ◌+◌, ◌%◌, ◌<◌, Bool, true, false, ◌||◌, ltb, length, get_or, set, replicate, is_some, Some, None, Ok, Err, Option, Result, sym, refl, ap, ◌∙◌, subst, inl, inr, ⊎_elim, arith, get_or-set_other, get_or-set_same}
+use Rattle.std.proofs.Common.{◌≡◌, ℕ, zero, suc, ◌+◌, ◌%◌, ◌<◌, Bool, true, false, ◌||◌, ltb, length, get_or, set, replicate, is_some, Some, None, Ok, Option, sym, refl, ap, ◌∙◌, subst, inl, inr, ⊎_elim, arith, get_or-set_other, get_or-set_same}
 use Rattle.std.proofs.lemmas.List.{length-set, get_or_past}
 use Rattle.std.proofs.lemmas.Bool.{cases_eq, cases_Bool, cases_lt, true≢false, le-ltb, lt-ltb, or_from, or_left, or_right}
 use Rattle.std.proofs.lemmas.Bool.Decides.{nat_tests}
 use Rattle.layers.specs.declared.cache.Held.{Held}
-use Rattle.metrics.specs.declared.fault.MissingGlyph.{MissingGlyph}
-use Rattle.metrics.specs.Limits.{deeper}
-use Rattle.metrics.specs.Meaning.{Meaning, answer}
-use Rattle.layers.specs.Cache.{Slots, At, Holds, filled, Full, FillsInTurn, SamePair, Apart, Right, Keeps, cached}
+use Rattle.metrics.specs.Meaning.{Meaning}
+use Rattle.layers.specs.Cache.{Slots, At, Holds, filled, Full, FillsInTurn, SamePair, Apart, Right, Keeps}
 
 -- ---- empty slots
 
@@ -104,28 +102,6 @@ full_at_next s n lt fills f k k_lt =
     let last : filled s 63 ≡ true = sym (ap (λ b. b || filled s 63) (le-ltb n n (omega arith))) ∙ sym (fills n lt) ∙ f in
     fills k k_lt ∙ or_right (ltb k n) (filled s 63) last
 
-pub keeps_hit : {B : Type 0} (s : Slots) (b : B) (p : Option ℕ) (c : ℕ) (r : Result ℕ MissingGlyph) → length s ≡ 64 → Apart s → Holds s p c → Keeps s s b b p c r
-keeps_hit s b p c r long apart held = record {
-  few = long;
-  apart = apart;
-  answered = λ _. held;
-  refused = λ _. refl;
-  unasked = λ _. (refl, refl);
-  only = λ q d h. inl h;
-  goes = inl (λ q d h. h);
-}
-
-pub keeps_refused : {B : Type 0} (s : Slots) (b b' : B) (p : Option ℕ) (c : ℕ) (e : MissingGlyph) → length s ≡ 64 → Apart s → (Holds s p c → ⊥) → Keeps s s b b' p c (Err e)
-keeps_refused s b b' p c e long apart new = record {
-  few = long;
-  apart = apart;
-  answered = λ ok. absurd (true≢false (sym ok));
-  refused = λ _. refl;
-  unasked = λ h. absurd (new h);
-  only = λ q d h. inl h;
-  goes = inl (λ q d h. h);
-}
-
 pub keeps_set : {B : Type 0} (s : Slots) (n : ℕ) (b b' : B) (p : Option ℕ) (c a : ℕ) → length s ≡ 64 → n < 64 → Apart s → FillsInTurn s n → (Holds s p c → ⊥)
     → Keeps s (set s n (Some (record { before = p; code = c; advance = a }))) b b' p c (Ok a)
 keeps_set s n b b' p c a long lt apart fills new =
@@ -150,28 +126,5 @@ keeps_set s n b b' p c a long lt apart fills new =
 
 -- ---- right advances
 
-pub answered_ok : (m : Meaning) (p : Option ℕ) (c a : ℕ) → Ok a ≡ answer m p c → (m.covers c ≡ true) × (a ≡ m.adv p c)
-answered_ok m p c a e = grind arith
-
--- the answer from a slot is the one meant
-pub answer_held : (m : Meaning) (p : Option ℕ) (c a : ℕ) → m.covers c ≡ true → a ≡ m.adv p c → Ok a ≡ answer (cached m) p c
-answer_held m p c a covered exact = rw (covered, exact)
-
--- a refusal from below, told one layer further down
-pub answer_deeper : (m : Meaning) (p : Option ℕ) (c : ℕ) (e e' : MissingGlyph) → Err e ≡ answer m p c → e'.code ≡ e.code → e'.depth ≡ deeper e.depth
-    → Err e' ≡ answer (cached m) p c
-answer_deeper m p c e e' told code depth = grind arith
-
 pub right_none : (m : Meaning) (n : ℕ) → Right m (replicate n None)
 right_none m n k p c a at = absurd (at_none (replicate n None) k p c a (none_at n k) at)
-
-pub right_set : (m : Meaning) (s : Slots) (n : ℕ) (p : Option ℕ) (c a : ℕ) → n < length s → m.covers c ≡ true → a ≡ m.adv p c → Right m s
-    → Right m (set s n (Some (record { before = p; code = c; advance = a })))
-right_set m s n p c a room covered exact right k q d x e =
-    let h : Held = record { before = p; code = c; advance = a } in
-    ⊎_elim
-    (λ ek. let same = same_held h (record { before = q; code = d; advance = x }) (here s n h room k ek) e in
-    let P : Held → Type 0 = λ g. (m.covers g.code ≡ true) × (g.advance ≡ m.adv g.before g.code) in
-    subst P same (covered, exact))
-    (λ nk. right k q d x (sym (there s n h room k nk) ∙ e))
-    (cases_eq k n)

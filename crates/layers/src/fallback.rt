@@ -15,8 +15,7 @@ pub struct Fallback<A, B> {
 
 impl<A: Measurer, B: Measurer> Fallback<A, B> {
     pub fn new(first: A, second: B) -> Fallback<A, B>
-        ensures made { (result.first ≡ first) × (result.second ≡ second) }
-        ensures sound { A.Measurer.sound first × B.Measurer.sound second → A.Measurer.sound result.first × B.Measurer.sound result.second }
+        ensures { (result.first ≡ first) × (result.second ≡ second) }
     {
         Fallback { first, second }
     }
@@ -24,8 +23,6 @@ impl<A: Measurer, B: Measurer> Fallback<A, B> {
 
 impl<A: Measurer, B: Measurer> Measurer for Fallback<A, B> {
     ghost meaning = { λ f. fallen_back (A.Measurer.meaning f.first) (B.Measurer.meaning f.second) };
-
-    ghost sound = { λ f. A.Measurer.sound f.first × B.Measurer.sound f.second };
 
     ghost bounded = { Prim.search rules };
 
@@ -42,9 +39,6 @@ impl<A: Measurer, B: Measurer> Measurer for Fallback<A, B> {
         if first_owns {
             return self.first.advance(before, c);
         }
-        match self.second.advance(before, c) {
-            Ok(advance) => Ok(advance),
-            Err(missing) => Err(missing.deeper()),
-        }
+        self.second.advance(before, c).map_err(MissingGlyph::deeper)
     }
 }

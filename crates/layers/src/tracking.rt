@@ -35,8 +35,7 @@ pub struct Tracking<M> {
 
 impl<M: Measurer> Tracking<M> {
     pub fn new(below: M, units: TrackingUnits) -> Tracking<M>
-        ensures made { (result.below ≡ below) × (result.units ≡ units) }
-        ensures sound { M.sound below → M.sound result.below }
+        ensures { (result.below ≡ below) × (result.units ≡ units) }
     {
         Tracking { below, units }
     }
@@ -45,8 +44,6 @@ impl<M: Measurer> Tracking<M> {
 impl<M: Measurer> Measurer for Tracking<M> {
     ghost meaning = { λ t. tracked t.units.value (M.meaning t.below) };
 
-    ghost sound = { λ t. M.sound t.below };
-
     ghost bounded = { Prim.search rules };
 
     fn covers(&mut self, c: u8) -> bool {
@@ -54,10 +51,10 @@ impl<M: Measurer> Measurer for Tracking<M> {
     }
 
     fn advance(&mut self, before: Option<u8>, c: u8) -> Result<u16, MissingGlyph> {
-        match (self.below.advance(before, c), before) {
-            (Ok(advance), None) => Ok(advance),
-            (Ok(advance), Some(_)) => Ok(cut(i32::from(advance) + self.units.value)),
-            (Err(missing), _) => Err(missing.deeper()),
+        let advance = self.below.advance(before, c).map_err(MissingGlyph::deeper)?;
+        match before {
+            None => Ok(advance),
+            Some(_) => Ok(cut(i32::from(advance) + self.units.value)),
         }
     }
 }

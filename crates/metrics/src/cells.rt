@@ -1,5 +1,5 @@
 // Cells: every covered character has the same advance.
-ghost use Rattle.std.specs.Prelude.{◌≡◌, ◌≤◌, IfOk, MatchResult};
+ghost use Rattle.std.specs.Prelude.{◌≡◌, ◌≤◌, MatchResult};
 ghost use Rattle.metrics.specs.Cells.{cells_meaning, CellSizes};
 ghost use Rattle.metrics.specs.Faults.{number};
 ghost use Rattle.std.proofs.Common.{rules, arith};
@@ -17,8 +17,7 @@ pub struct Cells {
 
 impl Cells {
     pub fn new(size: u32) -> Result<Cells, OutOfRange>
-        ensures value { MatchResult result (λ cells. CellSizes size × (cells.size ≡ size)) (λ e. (CellSizes size → ⊥) × (e ≡ OutOfRange.CellSize) × (number e ≡ 17)) }
-        ensures sound { IfOk result (λ cells. ⟦<Cells as Measurer>⟧.sound cells) }
+        ensures { MatchResult result (λ cells. CellSizes size × (cells.size ≡ size)) (λ e. (CellSizes size → ⊥) × (e ≡ OutOfRange.CellSize) × (number e ≡ 17)) }
     {
         match size {
             1..=2_000 => Ok(Cells { size: size as u16 }),
@@ -29,8 +28,6 @@ impl Cells {
 
 impl Measurer for Cells {
     ghost meaning = { λ cells. cells_meaning cells.size };
-
-    ghost sound = { λ _. Unit {0} };
 
     ghost bounded = { first_of (Prim.search rules, Prim.grind (arith, Self.row.coded.inj)) };
 

@@ -15,25 +15,20 @@ pub fn cut(sum: i32) -> u16
     sum.clamp(0, i32::from(MAX_ADVANCE)) as u16
 }
 
-// Both questions leave the meaning as it is. What an implementation keeps beside its meaning, as a
-// cache its answers, is right as long as the measurer is sound; every constructor makes a sound one,
-// and no question unmakes it.
+// Both questions leave the meaning as it is, and answer what it says. What an implementation keeps
+// beside its meaning, as a cache its answers, is right in every value of its type.
 pub trait Measurer {
     ghost meaning: { Self → Meaning };
-
-    ghost sound: { Self → Type 0 };
 
     // Whether there is a glyph for `c`.
     fn covers(&mut self, c: u8) -> bool
         ensures same { meaning self.new ≡ meaning self.old }
-        ensures stays { sound self.old → sound self.new }
-        ensures value { sound self.old → result ≡ (meaning self.old).covers c };
+        ensures value { result ≡ (meaning self.old).covers c };
 
     // The advance of `c` after the character before it in its row, if there is one.
     fn advance(&mut self, before: Option<u8>, c: u8) -> Result<u16, MissingGlyph>
         ensures same { meaning self.new ≡ meaning self.old }
-        ensures stays { sound self.old → sound self.new }
-        ensures value { sound self.old → result ≡ answer (meaning self.old) before c };
+        ensures value { result ≡ answer (meaning self.old) before c };
 
     ghost bounded: { (m : Self) → Bounded (meaning m) };
 }

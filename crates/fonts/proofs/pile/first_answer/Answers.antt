@@ -5,6 +5,5 @@ use Rattle.fonts.proofs.pile.first_answer.Goals as goal
 
 pub returns : goal.returns
 returns c =
-    let font = c.in_ok-font.ensures in
-    c.advance.ensures.value (c.pile-measurer.ensures.sound font.0)
-    ∙ ap (λ m. answer m c.args.before c.args.c) (c.pile-measurer.ensures.meaning ∙ ap (λ m. piled m c.args.cells.size c.args.units.value) font.1)
+    c.advance.ensures.value
+    ∙ ap (λ m. answer m c.args.before c.args.c) (c.pile-measurer.ensures.meaning ∙ ap (λ m. piled m c.args.cells.size c.args.units.value) c.in_ok-font.ensures)
