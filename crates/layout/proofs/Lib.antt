@@ -15,3 +15,4 @@ pub mod LayoutTheorems
 pub mod LayoutSteps
 pub mod Settling
 pub mod EdgeSteps
+pub mod Keeping

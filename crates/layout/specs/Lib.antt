@@ -5,3 +5,4 @@ pub mod Covers
 pub mod Layouts
 pub mod Theorems
 pub mod Settings
+pub mod Styles

@@ -24,8 +24,7 @@ impl Uncovered {
 // The glyph that `c` lacks; a newline needs none.
 fn lacking<M: Measurer>(measurer: &mut M, c: u8) -> Option<MissingGlyph>
     ensures same { M.meaning measurer.new ≡ M.meaning measurer.old }
-    ensures stays { M.sound measurer.old → M.sound measurer.new }
-    ensures value { M.sound measurer.old → result ≡ lacking (M.meaning measurer.old) c }
+    ensures value { result ≡ lacking (M.meaning measurer.old) c }
 {
     if c == NEWLINE {
         return None;
@@ -33,17 +32,13 @@ fn lacking<M: Measurer>(measurer: &mut M, c: u8) -> Option<MissingGlyph>
     if measurer.covers(c) {
         return None;
     }
-    match measurer.advance(None, c) {
-        Ok(_) => None,
-        Err(glyph) => Some(glyph),
-    }
+    measurer.advance(None, c).err()
 }
 
 // Refuses the first character, newlines aside, that has no glyph.
 pub fn check_cover<M: Measurer>(measurer: &mut M, chars: &[u8]) -> Result<(), Uncovered>
     ensures same { M.meaning measurer.new ≡ M.meaning measurer.old }
-    ensures stays { M.sound measurer.old → M.sound measurer.new }
-    ensures value { M.sound measurer.old → result ≡ cover_answer (first_uncovered (M.meaning measurer.old) 0 chars.now) }
+    ensures value { result ≡ cover_answer (first_uncovered (M.meaning measurer.old) 0 chars.now) }
 {
     for (offset, c) in chars.iter().enumerate() {
         if let Some(glyph) = lacking(measurer, *c) {

@@ -7,4 +7,5 @@ pub mod edges;
 pub mod laying;
 pub mod row_list;
 mod scan;
+pub mod setter;
 pub mod setting;

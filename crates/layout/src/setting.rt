@@ -1,14 +1,15 @@
 // Setting a text into rows, or saying why not.
 ghost use Rattle.std.specs.Prelude.{◌≡◌, Ok, MatchResult};
 ghost use Rattle.layout.specs.Settings.{setting_of, RefusalOf, Accepted, RightlyNotSet};
+ghost use Rattle.layout.specs.Styles.{style};
 ghost use Rattle.layout.specs.declared.setting.SetFault.TheVariants.{Refused, Memory};
 ghost use Rattle.layout.specs.declared.laying.LayFault.TheVariants.{NoGlyph};
 
 use crate::cover::{Uncovered, check_cover};
-use crate::laying::{LayFault, lay};
+use crate::laying::LayFault;
 use crate::row_list::RowList;
+use crate::setter::Setter;
 use metrics::measurer::Measurer;
-use page::measure::Measure;
 use page::policy::Policy;
 use page::text::Text;
 use std::alloc::{AllocError, Global};
@@ -44,22 +45,16 @@ impl From<AllocError> for SetFault {
     }
 }
 
-// The rows of a text. A character without a glyph is refused before any row is laid.
-pub fn set_text<M: Measurer, P: Policy>(
-    heap: Global,
-    text: &Text,
-    measurer: &mut M,
-    policy: &P,
-    measure: Measure,
-) -> Result<RowList, SetFault>
-    ensures same { M.meaning measurer.new ≡ M.meaning measurer.old }
-    ensures stays { M.sound measurer.old → M.sound measurer.new }
-    ensures value { M.sound measurer.old → MatchResult result (λ l. setting_of (M.meaning measurer.old) (P.rules policy.now) measure.units text.now.chars.items ≡ Ok l.rows.items) (RefusalOf (setting_of (M.meaning measurer.old) (P.rules policy.now) measure.units text.now.chars.items)) }
-    ensures first_fit { M.sound measurer.old → MatchResult result (λ l. Accepted (M.meaning measurer.old) (P.rules policy.now) measure.units text.now.chars.items l.rows.items) (RightlyNotSet (M.meaning measurer.old) (P.rules policy.now) measure.units text.now.chars.items) }
-{
-    check_cover(measurer, text.as_slice())?;
-    let mut rows = RowList::new(heap)?;
-    let mut tally = 0;
-    lay(text, measurer, policy, measure, &mut rows, &mut tally)?;
-    Ok(rows)
+impl<M: Measurer, P: Policy> Setter<M, P> {
+    // The rows of a text. A character without a glyph is refused before any row is laid.
+    pub fn set_text(&mut self, heap: Global, text: &Text) -> Result<RowList, SetFault>
+        ensures kept { style M.meaning P.rules self.new ≡ style M.meaning P.rules self.old }
+        ensures value { MatchResult result (λ l. setting_of (M.meaning self.old.measurer) (P.rules self.old.policy) self.old.measure.units text.now.chars.items ≡ Ok l.rows.items) (RefusalOf (setting_of (M.meaning self.old.measurer) (P.rules self.old.policy) self.old.measure.units text.now.chars.items)) }
+        ensures first_fit { MatchResult result (λ l. Accepted (M.meaning self.old.measurer) (P.rules self.old.policy) self.old.measure.units text.now.chars.items l.rows.items) (RightlyNotSet (M.meaning self.old.measurer) (P.rules self.old.policy) self.old.measure.units text.now.chars.items) }
+    {
+        check_cover(&mut self.measurer, text.as_slice())?;
+        let mut rows = RowList::new(heap)?;
+        self.lay(text, &mut rows)?;
+        Ok(rows)
+    }
 }

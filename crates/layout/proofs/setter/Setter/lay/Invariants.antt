@@ -1,0 +1,20 @@
+use Rattle.std.proofs.Common.{◌≡◌, ◌+◌, ◌-◌, ◌%◌, ◌^◌, ◌<◌, ◌≤◌, length, vec_items, vec_len}
+use Rattle.layout.specs.Layouts.{laid, laid_from, most_rows}
+use Rattle.layout.specs.Styles.{style}
+use Rattle.layout.proofs.LayoutSteps.{behind}
+use Rattle.layout.proofs.setter.Setter.lay.Given as goal
+
+-- What is laid already, and then from `start` on, is the layout.
+abbrev pub invariant-rows : goal.invariant-rows
+invariant-rows g l =
+    let t = g.T.Characters.chars l.text in
+    let k = style g.M.Measurer.meaning g.P.Policy.rules l.initial.self in
+    let done = vec_items l.rows.rows in
+    (style g.M.Measurer.meaning g.P.Policy.rules l.self ≡ k)
+    × (l.start ≤ length t)
+    × (behind done (laid_from k.meaning k.rules k.measure t (most_rows - length done) l.start) ≡ laid k.meaning k.rules k.measure t)
+    × (length done ≡ 0 → l.self.tally ≡ l.initial.self.tally)
+    × (0 < length done → l.self.tally ≡ (l.initial.self.tally + length done) % 2 ^ 64)
+
+abbrev pub decreases-rows : goal.decreases-rows
+decreases-rows g l = most_rows - vec_len l.rows.rows
