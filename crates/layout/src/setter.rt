@@ -1,4 +1,6 @@
 // What text is set with.
+ghost use Rattle.std.specs.Prelude.{◌≡◌};
+
 use page::measure::Measure;
 
 // A measurer, a policy and a measure, and how many rows were broken with them, modulo 2^64.
@@ -8,4 +10,18 @@ pub struct Setter<M, P> {
     pub policy: P,
     pub measure: Measure,
     pub tally: u64,
+}
+
+impl<M, P> Setter<M, P> {
+    // A setter that has broken no row.
+    pub fn new(measurer: M, policy: P, measure: Measure) -> Setter<M, P>
+        ensures { (result.measurer ≡ measurer) × (result.policy ≡ policy) × (result.measure ≡ measure) × (result.tally ≡ 0) }
+    {
+        Setter {
+            measurer,
+            policy,
+            measure,
+            tally: 0,
+        }
+    }
 }

@@ -12,6 +12,7 @@ use Rattle.layout.specs.FirstFit.{RowFrom, RowsFrom}
 use Rattle.layout.specs.FirstFit.RowFrom.{whole, wrapped, cut, single, lone}
 use Rattle.layout.specs.FirstFit.RowsFrom.{end, more}
 use Rattle.layout.specs.Scans.{row_from}
+use Rattle.layout.specs.Styles.{Style}
 use Rattle.layout.specs.declared.cover.Uncovered.{Uncovered}
 use Rattle.layout.proofs.Following.{placed}
 use Rattle.layout.proofs.RowTheorems.{row_laws}
@@ -41,17 +42,17 @@ all_unmap P f (x ∷ xs) h = (h.0, all_unmap P f xs h.1)
 pub counted_on : (e a b n k : ℕ) → a ≡ (e + n) % 2 ^ 64 → b ≡ (a + 1) % 2 ^ 64 → k ≡ n + 1 → b ≡ (e + k) % 2 ^ 64
 counted_on e a b n k p q h = omega arith
 
--- a row broken within the text, by a measurer that means the same
-pub broken_at : (m m' : Meaning) (P : Rules) (w : ℕ) (t : List ℕ) (s : ℕ) (r : Row) → m' ≡ m → s ≤ length t → RowFrom m' P w t (min s (length t)) r → RowFrom m P w t s r
-broken_at m m' P w t s r q h x =
+-- a row broken within the text, in the same style
+pub broken_at : (k k' : Style) (t : List ℕ) (s : ℕ) (r : Row) → k' ≡ k → s ≤ length t → RowFrom k'.meaning k'.rules k'.measure t (min s (length t)) r → RowFrom k.meaning k.rules k.measure t s r
+broken_at k k' t s r q h x =
     let e : min s (length t) ≡ s = omega arith in
-    subst (λ (n : Meaning). RowFrom n P w t s r) q (subst (λ (i : ℕ). RowFrom m' P w t i r) e x)
+    subst (λ (n : Style). RowFrom n.meaning n.rules n.measure t s r) q (subst (λ (i : ℕ). RowFrom k'.meaning k'.rules k'.measure t i r) e x)
 
 -- no row of a covered text fails
-pub never_missing : (m m' : Meaning) (P : Rules) (w : ℕ) (t : List ℕ) (s : ℕ) (u : Uncovered) → m' ≡ m → Covered m t → Err u ≡ row_from m' P w t s → ⊥
-never_missing m m' P w t s u q v x =
-    let p = (row_laws m P w).exists t s v in
-    let e : row_from m P w t s ≡ Err u = ap (λ (n : Meaning). row_from n P w t s) (sym q) ∙ sym x in
+pub never_missing : (k k' : Style) (t : List ℕ) (s : ℕ) (u : Uncovered) → k' ≡ k → Covered k.meaning t → Err u ≡ row_from k'.meaning k'.rules k'.measure t s → ⊥
+never_missing k k' t s u q v x =
+    let p = (row_laws k.meaning k.rules k.measure).exists t s v in
+    let e : row_from k.meaning k.rules k.measure t s ≡ Err u = ap (λ (n : Style). row_from n.meaning n.rules n.measure t s) (sym q) ∙ sym x in
     let f = p.1 in
     let z : ◌≡◌ {A = ℕ} 0 1 = cc in omega arith
 

@@ -2,6 +2,7 @@
 ghost use Rattle.std.specs.Prelude.{◌≡◌, ◌+◌, ◌-◌, ◌%◌, ◌^◌, ◌<◌, ◌≤◌, min, List, length, IfOk, MatchResult, OnOk, slice_index_or};
 ghost use Rattle.layout.specs.declared.laying.LayFault.TheVariants.{TooManyRows};
 ghost use Rattle.layout.specs.Layouts.{most_rows};
+ghost use Rattle.layout.specs.Styles.{style};
 ghost use Rattle.page.specs.Texts.{most_characters};
 ghost use Rattle.page.specs.declared.row.Row.{Row as OneRow};
 ghost use Rattle.reflow.specs.Relaying.{Changed, Underway, Resumes, Relaid};
@@ -12,11 +13,10 @@ use crate::edit::Edit;
 use crate::meeting::meet;
 use crate::repaint::Repaint;
 use crate::repainting::repainted;
-use layout::breaking::break_row;
 use layout::laying::LayFault;
 use layout::row_list::{MAX_ROWS, RowList};
+use layout::setter::Setter;
 use metrics::measurer::Measurer;
-use page::measure::Measure;
 use page::policy::Policy;
 use page::row::Row;
 use page::text::Characters;
@@ -27,30 +27,23 @@ fn restart<T: Characters>(text: &T, old: &[Row], first: usize) -> usize
     ensures few { length (T.chars text.now) ≤ most_characters }
 {
     let end = text.len();
-    match old.get(first) {
-        Some(row) => row.start.min(end),
-        None => end,
-    }
+    old.get(first).map_or(end, |row| row.start.min(end))
 }
 
 // Breaks rows from `start` on until one would start where an old row did, and answers that old row; or,
 // where the text ends first, the number of old rows.
 fn break_until_met<T: Characters, M: Measurer, P: Policy>(
     text: &T,
-    measurer: &mut M,
-    policy: &P,
-    measure: Measure,
+    setter: &mut Setter<M, P>,
     edit: Edit,
     old: &[Row],
     start: usize,
     rows: &mut RowList,
-    tally: &mut u64,
 ) -> Result<usize, LayFault>
-    ensures same { M.meaning measurer.new ≡ M.meaning measurer.old }
-    ensures stays { M.sound measurer.old → M.sound measurer.new }
+    ensures kept { style M.meaning P.rules setter.new ≡ style M.meaning P.rules setter.old }
     ensures within { IfOk result (λ j. j ≤ length old.now) }
-    ensures counted { OnOk result ((length rows.old.rows.items ≤ length rows.new.rows.items) × (tally.old < 2 ^ 64 → tally.new ≡ (tally.old + (length rows.new.rows.items - length rows.old.rows.items)) % 2 ^ 64)) }
-    ensures met { M.sound measurer.old → (new : List OneRow) → Changed (M.meaning measurer.old) (P.rules policy.now) measure.units (T.chars text.now) edit old.now new → Underway (M.meaning measurer.old) (P.rules policy.now) measure.units (T.chars text.now) edit old.now new rows.old.rows.items start → MatchResult result (λ j. Resumes edit old.now new rows.new.rows.items j) (λ f. (f ≡ TooManyRows) × (most_rows < length new)) }
+    ensures counted { OnOk result ((length rows.old.rows.items ≤ length rows.new.rows.items) × (setter.old.tally < 2 ^ 64 → setter.new.tally ≡ (setter.old.tally + (length rows.new.rows.items - length rows.old.rows.items)) % 2 ^ 64)) }
+    ensures met { (new : List OneRow) → Changed (M.meaning setter.old.measurer) (P.rules setter.old.policy) setter.old.measure.units (T.chars text.now) edit old.now new → Underway (M.meaning setter.old.measurer) (P.rules setter.old.policy) setter.old.measure.units (T.chars text.now) edit old.now new rows.old.rows.items start → MatchResult result (λ j. Resumes edit old.now new rows.new.rows.items j) (λ f. (f ≡ TooManyRows) × (most_rows < length new)) }
 {
     let mut start = start;
     let mut from = 0;
@@ -59,7 +52,7 @@ fn break_until_met<T: Characters, M: Measurer, P: Policy>(
             Ok(met) => return Ok(met),
             Err(next) => from = next,
         }
-        let row = break_row(text, measurer, policy, measure, start, tally)?;
+        let row = setter.break_row(text, start)?;
         rows.push(row)?;
         let Some(next) = row.next_start() else {
             return Ok(old.len());
@@ -74,28 +67,22 @@ fn break_until_met<T: Characters, M: Measurer, P: Policy>(
 // started, and the rest are the old rows, moved. A refusal leaves the rows that were laid up to there.
 pub fn relay<T: Characters, M: Measurer, P: Policy>(
     text: &T,
-    measurer: &mut M,
-    policy: &P,
-    measure: Measure,
+    setter: &mut Setter<M, P>,
     edit: Edit,
     old: &[Row],
     rows: &mut RowList,
-    tally: &mut u64,
 ) -> Result<Repaint, LayFault>
-    ensures same { M.meaning measurer.new ≡ M.meaning measurer.old }
-    ensures stays { M.sound measurer.old → M.sound measurer.new }
-    ensures laws { ReflowLaws (M.meaning measurer.old) (P.rules policy.now) measure.units }
-    ensures relaid { M.sound measurer.old → Relaid (M.meaning measurer.old) (P.rules policy.now) measure.units (T.chars text.now) edit old.now result rows.new.rows.items tally.old tally.new }
+    ensures kept { style M.meaning P.rules setter.new ≡ style M.meaning P.rules setter.old }
+    ensures laws { ReflowLaws (M.meaning setter.old.measurer) (P.rules setter.old.policy) setter.old.measure.units }
+    ensures relaid { Relaid (M.meaning setter.old.measurer) (P.rules setter.old.policy) setter.old.measure.units (T.chars text.now) edit old.now result rows.new.rows.items setter.old.tally setter.new.tally }
 {
     rows.clear();
     let first = first_reaching(old, edit);
     carry(rows, &old[..first])?;
     let start = restart(text, old, first);
-    let before = *tally;
-    let resumed = break_until_met(
-        text, measurer, policy, measure, edit, old, start, rows, tally,
-    )?;
-    let broken = tally.wrapping_sub(before);
+    let before = setter.tally;
+    let resumed = break_until_met(text, setter, edit, old, start, rows)?;
+    let broken = setter.tally.wrapping_sub(before);
     let met = rows.len();
     resume(rows, &old[resumed..], edit)?;
     Ok(repainted(edit, old, rows.as_slice(), met, broken))

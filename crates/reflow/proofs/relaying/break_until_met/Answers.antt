@@ -5,6 +5,7 @@ use Rattle.std.proofs.lemmas.Result.{err_from_is_err_and}
 use Rattle.page.specs.Rows.{following}
 use Rattle.layout.specs.FirstFit.{RowFrom}
 use Rattle.layout.specs.Layouts.{most_rows}
+use Rattle.layout.specs.Styles.{style}
 use Rattle.layout.proofs.Following.{placed}
 use Rattle.reflow.proofs.Meetings.{before_later}
 use Rattle.reflow.proofs.RelaySteps.{counted_on, broken_at, never_missing, goes_on, ends, resumes_at, longer, starts_within}
@@ -13,45 +14,37 @@ use Rattle.reflow.proofs.relaying.break_until_met.Goals as goal
 pub returns-in-Ok : goal.returns-in-Ok
 returns-in-Ok g c =
     let inv = c.rows.invariant in
-    let m = g.M.Measurer.meaning c.args.measurer.now in
-    let P = g.P.Policy.rules c.args.policy.now in
-    let w = c.args.measure.units in
+    let k = style g.M.Measurer.meaning g.P.Policy.rules c.args.setter.now in
     let t = g.T.Characters.chars c.args.text.now in
     let met = c.in-Ok.ensures in
     record {
-      same = inv.0;
-      stays = inv.1;
+      kept = inv.0;
       within = omega (arith, met.among);
-      counted = (inv.2, inv.3);
-      met = λ s new ch u. resumes_at m P w t c.args.edit c.args.old.now new (vec_items c.rows.rows.rows) c.rows.start (inv.4 s new ch u) ch c.in-Ok.met met;
+      counted = (inv.1, inv.2);
+      met = λ new ch u. resumes_at k.meaning k.rules k.measure t c.args.edit c.args.old.now new (vec_items c.rows.rows.rows) c.rows.start (inv.3 new ch u) ch c.in-Ok.met met;
     }
 
 pub returns-in_err-row : goal.returns-in_err-row
 returns-in_err-row g c =
     let inv = c.rows.invariant in
     let told = c.in_err-row.ensures in
-    let m = g.M.Measurer.meaning c.args.measurer.now in
-    let m' = g.M.Measurer.meaning c.rows.measurer in
-    let P = g.P.Policy.rules c.args.policy.now in
-    let w = c.args.measure.units in
+    let k = style g.M.Measurer.meaning g.P.Policy.rules c.args.setter.now in
+    let k' = style g.M.Measurer.meaning g.P.Policy.rules c.rows.setter in
     let t = g.T.Characters.chars c.args.text.now in
     let p = err_from_is_err_and c.from_residual.result c.from_residual.ensures.1 in
     record {
-      same = told.same ∙ inv.0;
-      stays = λ s. told.stays (inv.1 s);
+      kept = told.kept ∙ inv.0;
       within = rw p.1 tt;
       counted = rw p.1 tt;
-      met = λ s new ch u. absurd (never_missing m m' P w t (min c.rows.start (length t)) c.in_err-row.field-0.0 inv.0 ch.covers (told.value (inv.1 s)));
+      met = λ new ch u. absurd (never_missing k k' t (min c.rows.start (length t)) c.in_err-row.field-0.0 inv.0 ch.covers told.value);
     }
 
 pub returns-in_default : goal.returns-in_default
 returns-in_default g c =
     let inv = c.rows.invariant in
     let told = c.in_ok-row.ensures in
-    let m = g.M.Measurer.meaning c.args.measurer.now in
-    let m' = g.M.Measurer.meaning c.rows.measurer in
-    let P = g.P.Policy.rules c.args.policy.now in
-    let w = c.args.measure.units in
+    let k = style g.M.Measurer.meaning g.P.Policy.rules c.args.setter.now in
+    let k' = style g.M.Measurer.meaning g.P.Policy.rules c.rows.setter in
     let t = g.T.Characters.chars c.args.text.now in
     let e = c.args.edit in
     let old = c.args.old.now in
@@ -63,18 +56,17 @@ returns-in_default g c =
     let pushed : more ≡ done ++ r ∷ [] = c.in_ok-push.ensures in
     let long : length more ≡ length done + 1 = ap length pushed ∙ length_push done r in
     record {
-      same = told.same ∙ inv.0;
-      stays = λ s. told.stays (inv.1 s);
+      kept = told.kept ∙ inv.0;
       within = omega arith;
-      counted = (omega arith, (λ f. counted_on c.args.tally.now c.rows.tally _ (length done - length first) (length more - length first) (inv.3 f) told.counted (omega arith)));
-      met = λ s new ch u.
-          let so_far = inv.4 s new ch u in
-          let unmet = c.in-Err.ensures ch.laws.ascend (inv.5 s new ch u) in
-          let x : RowFrom m P w t start r = broken_at m m' P w t start r inv.0 (starts_within m P w t e old new done start so_far) (told.first_fit (inv.1 s)) in
-          let at = placed m P w t start r x in
+      counted = (omega arith, (λ f. counted_on c.args.setter.now.tally c.rows.setter.tally _ (length done - length first) (length more - length first) (inv.2 f) told.counted (omega arith)));
+      met = λ new ch u.
+          let so_far = inv.3 new ch u in
+          let unmet = c.in-Err.ensures ch.laws.ascend (inv.4 new ch u) in
+          let x : RowFrom k.meaning k.rules k.measure t start r = broken_at k k' t start r inv.0 (starts_within k.meaning k.rules k.measure t e old new done start so_far) told.first_fit in
+          let at = placed k.meaning k.rules k.measure t start r x in
           let few = told.few in
           let last : following r ≡ None = sym (c.in_default.ensures (omega (arith, at.ends))) in
-          rw pushed (ends m P w t e old new done start so_far r x (unmet.meets_none r at.starts) last);
+          rw pushed (ends k.meaning k.rules k.measure t e old new done start so_far r x (unmet.meets_none r at.starts) last);
     }
 
 pub rows-smaller : goal.rows-smaller
@@ -92,10 +84,8 @@ pub rows-preserved : goal.rows-preserved
 rows-preserved g c =
     let inv = c.rows.invariant in
     let told = c.in_ok-row.ensures in
-    let m = g.M.Measurer.meaning c.args.measurer.now in
-    let m' = g.M.Measurer.meaning c.rows.measurer in
-    let P = g.P.Policy.rules c.args.policy.now in
-    let w = c.args.measure.units in
+    let k = style g.M.Measurer.meaning g.P.Policy.rules c.args.setter.now in
+    let k' = style g.M.Measurer.meaning g.P.Policy.rules c.rows.setter in
     let t = g.T.Characters.chars c.args.text.now in
     let e = c.args.edit in
     let old = c.args.old.now in
@@ -107,23 +97,22 @@ rows-preserved g c =
     let r = c.in_ok-row.row in
     let pushed : more ≡ done ++ r ∷ [] = c.in_ok-push.ensures in
     let long : length more ≡ length done + 1 = ap length pushed ∙ length_push done r in (
-      told.same ∙ inv.0,
-      (λ s. told.stays (inv.1 s)),
+      told.kept ∙ inv.0,
       omega arith,
-      (λ f. counted_on c.args.tally.now c.rows.tally _ (length done - length first) (length more - length first) (inv.3 f) told.counted (omega arith)),
-      (λ s new ch u.
-          let so_far = inv.4 s new ch u in
-          let unmet = c.in-Err.ensures ch.laws.ascend (inv.5 s new ch u) in
-          let x : RowFrom m P w t start r = broken_at m m' P w t start r inv.0 (starts_within m P w t e old new done start so_far) (told.first_fit (inv.1 s)) in
-          let at = placed m P w t start r x in
+      (λ f. counted_on c.args.setter.now.tally c.rows.setter.tally _ (length done - length first) (length more - length first) (inv.2 f) told.counted (omega arith)),
+      (λ new ch u.
+          let so_far = inv.3 new ch u in
+          let unmet = c.in-Err.ensures ch.laws.ascend (inv.4 new ch u) in
+          let x : RowFrom k.meaning k.rules k.measure t start r = broken_at k k' t start r inv.0 (starts_within k.meaning k.rules k.measure t e old new done start so_far) told.first_fit in
+          let at = placed k.meaning k.rules k.measure t start r x in
           let few = told.few in
           let next : following r ≡ Some s' = sym (c.in-Some.ensures (omega (arith, at.ends))) in
-          rw pushed (goes_on m P w t e old new done start so_far r s' x (unmet.meets_none r at.starts) next)),
-      (λ s new ch u.
-          let so_far = inv.4 s new ch u in
-          let unmet = c.in-Err.ensures ch.laws.ascend (inv.5 s new ch u) in
-          let x : RowFrom m P w t start r = broken_at m m' P w t start r inv.0 (starts_within m P w t e old new done start so_far) (told.first_fit (inv.1 s)) in
-          let at = placed m P w t start r x in
+          rw pushed (goes_on k.meaning k.rules k.measure t e old new done start so_far r s' x (unmet.meets_none r at.starts) next)),
+      (λ new ch u.
+          let so_far = inv.3 new ch u in
+          let unmet = c.in-Err.ensures ch.laws.ascend (inv.4 new ch u) in
+          let x : RowFrom k.meaning k.rules k.measure t start r = broken_at k k' t start r inv.0 (starts_within k.meaning k.rules k.measure t e old new done start so_far) told.first_fit in
+          let at = placed k.meaning k.rules k.measure t start r x in
           let few = told.few in
           let next : following r ≡ Some s' = sym (c.in-Some.ensures (omega (arith, at.ends))) in
           before_later old c.in-Err.next (start - e.ins + e.del) (s' - e.ins + e.del) (omega (arith, (at.on s' next).0)) unmet.passed),
@@ -132,16 +121,13 @@ rows-preserved g c =
 pub returns : goal.returns
 returns g c =
     let inv = c.rows.invariant in
-    let m = g.M.Measurer.meaning c.args.measurer.now in
-    let P = g.P.Policy.rules c.args.policy.now in
-    let w = c.args.measure.units in
+    let k = style g.M.Measurer.meaning g.P.Policy.rules c.args.setter.now in
     let t = g.T.Characters.chars c.args.text.now in
     let done = vec_items c.rows.rows.rows in
     let full : most_rows ≤ length done = let a = c.rows.rows.rows.ok.0 in omega (arith, c.rows-test.false, c.len.ensures) in
     record {
-      same = inv.0;
-      stays = inv.1;
+      kept = inv.0;
       within = tt;
       counted = tt;
-      met = λ s new ch u. (refl, omega (arith, longer m P w t c.args.edit c.args.old.now new done c.rows.start (inv.4 s new ch u)));
+      met = λ new ch u. (refl, omega (arith, longer k.meaning k.rules k.measure t c.args.edit c.args.old.now new done c.rows.start (inv.3 new ch u)));
     }

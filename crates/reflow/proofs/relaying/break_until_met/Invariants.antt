@@ -1,6 +1,7 @@
 use Rattle.std.proofs.Common.{◌≡◌, ◌+◌, ◌-◌, ◌%◌, ◌^◌, ◌<◌, ◌≤◌, List, length, vec_items, vec_len}
 use Rattle.page.specs.declared.row.Row.{Row}
 use Rattle.layout.specs.Layouts.{most_rows}
+use Rattle.layout.specs.Styles.{style}
 use Rattle.reflow.specs.Relaying.{Before, Changed, Underway}
 use Rattle.reflow.proofs.relaying.break_until_met.Given as goal
 
@@ -9,18 +10,15 @@ use Rattle.reflow.proofs.relaying.break_until_met.Given as goal
 abbrev pub invariant-rows : goal.invariant-rows
 invariant-rows g l =
     let t = g.T.Characters.chars l.text in
-    let m = g.M.Measurer.meaning l.initial.measurer in
-    let P = g.P.Policy.rules l.policy in
-    let w = l.measure.units in
+    let k = style g.M.Measurer.meaning g.P.Policy.rules l.initial.setter in
     let done = vec_items l.rows.rows in
     let first = vec_items l.initial.rows.rows in
-    (g.M.Measurer.meaning l.measurer ≡ m)
-    × (g.M.Measurer.sound l.initial.measurer → g.M.Measurer.sound l.measurer)
+    (style g.M.Measurer.meaning g.P.Policy.rules l.setter ≡ k)
     × (length first ≤ length done)
-    × (l.initial.tally < 2 ^ 64 → l.tally ≡ (l.initial.tally + (length done - length first)) % 2 ^ 64)
-    × (g.M.Measurer.sound l.initial.measurer → (new : List Row) → Changed m P w t l.edit l.old new → Underway m P w t l.edit l.old new first l.initial.start
-    → Underway m P w t l.edit l.old new done l.start)
-    × (g.M.Measurer.sound l.initial.measurer → (new : List Row) → Changed m P w t l.edit l.old new → Underway m P w t l.edit l.old new first l.initial.start
+    × (l.initial.setter.tally < 2 ^ 64 → l.setter.tally ≡ (l.initial.setter.tally + (length done - length first)) % 2 ^ 64)
+    × ((new : List Row) → Changed k.meaning k.rules k.measure t l.edit l.old new → Underway k.meaning k.rules k.measure t l.edit l.old new first l.initial.start
+    → Underway k.meaning k.rules k.measure t l.edit l.old new done l.start)
+    × ((new : List Row) → Changed k.meaning k.rules k.measure t l.edit l.old new → Underway k.meaning k.rules k.measure t l.edit l.old new first l.initial.start
     → Before l.old l.from (l.start - l.edit.ins + l.edit.del))
 
 abbrev pub decreases-rows : goal.decreases-rows

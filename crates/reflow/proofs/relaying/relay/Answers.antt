@@ -6,6 +6,7 @@ use Rattle.std.proofs.lemmas.List.Sums.{prefix_len-le-length}
 use Rattle.std.specs.List.{AllByRecursion}
 use Rattle.page.specs.declared.row.Row.{Row}
 use Rattle.layout.specs.Layouts.{most_rows}
+use Rattle.layout.specs.Styles.{style}
 use Rattle.reflow.specs.declared.repaint.Repaint.{Repaint}
 use Rattle.reflow.specs.Edits.{rows_of, resumed, Small}
 use Rattle.reflow.specs.Repaints.{first_reaching, meeting, repaint_of}
@@ -22,9 +23,7 @@ slice_bounds-carry-end g c =
 
 pub returns-in_err-carry : goal.returns-in_err-carry
 returns-in_err-carry g c =
-    let m = g.M.Measurer.meaning c.args.measurer.now in
-    let P = g.P.Policy.rules c.args.policy.now in
-    let w = c.args.measure.units in
+    let k = style g.M.Measurer.meaning g.P.Policy.rules c.args.setter.now in
     let t = g.T.Characters.chars c.args.text.now in
     let old = c.args.old.now in
     let n = c.first_reaching-first.result in
@@ -33,19 +32,16 @@ returns-in_err-carry g c =
     let a = c.clear.new.self.rows.ok.0 in
     let p = err_from_is_err_and c.from_residual.result c.from_residual.ensures.1 in
     record {
-      same = refl;
-      stays = λ s. s;
-      laws = reflow_laws m P w;
-      relaid = λ s before ins q ed o.
-          let b = begun m P w before ins c.args.edit ed t old q o in
+      kept = refl;
+      laws = reflow_laws k.meaning k.rules k.measure;
+      relaid = λ before ins q ed o.
+          let b = begun k.meaning k.rules k.measure before ins c.args.edit ed t old q o in
           rw p.1 (p.2, omega (arith, b.long, c.first_reaching-first.ensures, length-take n old));
     }
 
 pub returns-in_err-resumed : goal.returns-in_err-resumed
 returns-in_err-resumed g c =
-    let m = g.M.Measurer.meaning c.args.measurer.now in
-    let P = g.P.Policy.rules c.args.policy.now in
-    let w = c.args.measure.units in
+    let k = style g.M.Measurer.meaning g.P.Policy.rules c.args.setter.now in
     let t = g.T.Characters.chars c.args.text.now in
     let e = c.args.edit in
     let old = c.args.old.now in
@@ -54,21 +50,18 @@ returns-in_err-resumed g c =
     let carried : vec_items c.carry.new.rows.rows ≡ take n old = c.in_ok-carry.ensures ∙ ap (λ (x : List Row). x ++ take n old) c.clear.ensures in
     let p = err_from_is_err_and c.from_residual-in_err-resumed.result c.from_residual-in_err-resumed.ensures.1 in
     record {
-      same = told.same;
-      stays = told.stays;
-      laws = reflow_laws m P w;
-      relaid = λ s before ins q ed o.
-          let b = begun m P w before ins e ed t old q o in
-          let u = under_way m P w t e old b n c.restart-start.result (vec_items c.carry.new.rows.rows) c.first_reaching-first.ensures carried c.restart-start.ensures.value in
-          let x = told.met s (rows_of m P w t) b.changed u in
+      kept = told.kept;
+      laws = reflow_laws k.meaning k.rules k.measure;
+      relaid = λ before ins q ed o.
+          let b = begun k.meaning k.rules k.measure before ins e ed t old q o in
+          let u = under_way k.meaning k.rules k.measure t e old b n c.restart-start.result (vec_items c.carry.new.rows.rows) c.first_reaching-first.ensures carried c.restart-start.ensures.value in
+          let x = told.met (rows_of k.meaning k.rules k.measure t) b.changed u in
           rw p.1 (p.2 ∙ x.0, x.1);
     }
 
 pub returns-in_err-resume : goal.returns-in_err-resume
 returns-in_err-resume g c =
-    let m = g.M.Measurer.meaning c.args.measurer.now in
-    let P = g.P.Policy.rules c.args.policy.now in
-    let w = c.args.measure.units in
+    let k = style g.M.Measurer.meaning g.P.Policy.rules c.args.setter.now in
     let t = g.T.Characters.chars c.args.text.now in
     let e = c.args.edit in
     let old = c.args.old.now in
@@ -82,21 +75,18 @@ returns-in_err-resume g c =
     let carried : vec_items c.carry.new.rows.rows ≡ take n old = c.in_ok-carry.ensures ∙ ap (λ (x : List Row). x ++ take n old) c.clear.ensures in
     let p = err_from_is_err_and c.from_residual-in_err-resume.result c.from_residual-in_err-resume.ensures.1 in
     record {
-      same = laid.same;
-      stays = laid.stays;
-      laws = reflow_laws m P w;
-      relaid = λ s before ins q ed o.
-          let b = begun m P w before ins e ed t old q o in
-          let u = under_way m P w t e old b n c.restart-start.result (vec_items c.carry.new.rows.rows) c.first_reaching-first.ensures carried c.restart-start.ensures.value in
-          let x = laid.met s (rows_of m P w t) b.changed u in
+      kept = laid.kept;
+      laws = reflow_laws k.meaning k.rules k.measure;
+      relaid = λ before ins q ed o.
+          let b = begun k.meaning k.rules k.measure before ins e ed t old q o in
+          let u = under_way k.meaning k.rules k.measure t e old b n c.restart-start.result (vec_items c.carry.new.rows.rows) c.first_reaching-first.ensures carried c.restart-start.ensures.value in
+          let x = laid.met (rows_of k.meaning k.rules k.measure t) b.changed u in
           rw p.1 (p.2, omega (arith, ap length x.joins, length-append done (map f (drop j old)), length-map (drop j old) f, ap length (take_rest old j)));
     }
 
 pub returns : goal.returns
 returns g c =
-    let m = g.M.Measurer.meaning c.args.measurer.now in
-    let P = g.P.Policy.rules c.args.policy.now in
-    let w = c.args.measure.units in
+    let k = style g.M.Measurer.meaning g.P.Policy.rules c.args.setter.now in
     let t = g.T.Characters.chars c.args.text.now in
     let e = c.args.edit in
     let old = c.args.old.now in
@@ -110,27 +100,26 @@ returns g c =
     let told : AllByRecursion (λ (r : Row). Small (f r)) tail → rows ≡ done ++ map f tail = c.in_ok-resume.ensures in
     let a = c.break_until_met.new.rows.rows.ok.0 in
     let carried : vec_items c.carry.new.rows.rows ≡ take n old = c.in_ok-carry.ensures ∙ ap (λ (x : List Row). x ++ take n old) c.clear.ensures in
-    let fits : c.args.tally.now < 2 ^ 64 = omega arith in
+    let fits : c.args.setter.now.tally < 2 ^ 64 = omega arith in
     record {
-      same = laid.same;
-      stays = laid.stays;
-      laws = reflow_laws m P w;
-      relaid = λ s before ins q ed o.
-          let new = rows_of m P w t in
-          let b = begun m P w before ins e ed t old q o in
-          let u = under_way m P w t e old b n c.restart-start.result (vec_items c.carry.new.rows.rows) c.first_reaching-first.ensures carried c.restart-start.ensures.value in
-          let x = laid.met s new b.changed u in
-          let small = resumed_small m P w t e old new done j 0 c.restart-start.ensures.few b.anew x in
+      kept = laid.kept;
+      laws = reflow_laws k.meaning k.rules k.measure;
+      relaid = λ before ins q ed o.
+          let new = rows_of k.meaning k.rules k.measure t in
+          let b = begun k.meaning k.rules k.measure before ins e ed t old q o in
+          let u = under_way k.meaning k.rules k.measure t e old b n c.restart-start.result (vec_items c.carry.new.rows.rows) c.first_reaching-first.ensures carried c.restart-start.ensures.value in
+          let x = laid.met new b.changed u in
+          let small = resumed_small k.meaning k.rules k.measure t e old new done j 0 c.restart-start.ensures.few b.anew x in
           let is : rows ≡ new = told (subst (AllByRecursion (λ (r : Row). Small (f r))) (sym (take_rest old j)) small) ∙ ap (λ (y : List Row). done ++ map f y) (take_rest old j) ∙ x.joins in
           let met : c.len-met.result ≡ meeting e old new = omega (arith, c.len-met.ensures, x.met) in
           let first : length (vec_items c.carry.new.rows.rows) ≡ first_reaching e old = omega (arith, ap length carried, length-take-le n old (omega (arith, b.changed.laws.reaches, c.first_reaching-first.ensures)), c.first_reaching-first.ensures) in
-          let counted : c.break_until_met.new.tally ≡ (c.args.tally.now + (meeting e old new - first_reaching e old)) % 2 ^ 64 = omega (arith, laid.counted.1 fits, x.met) in
+          let counted : c.break_until_met.new.setter.tally ≡ (c.args.setter.now.tally + (meeting e old new - first_reaching e old)) % 2 ^ 64 = omega (arith, laid.counted.1 fits, x.met) in
           let few : length done ≤ 1024 = omega (arith, c.break_until_met.new.rows.few) in
           let painted : c.repainted.result ≡ repaint_of e old new = painted_anew e old c.as_slice.result.now new c.repainted.result c.len-met.result _ c.repainted.ensures (c.as_slice.ensures ∙ is) met (omega (arith, x.met)) in
           record {
             items = is;
             painted = painted;
-            counted = counted ∙ ap (λ (y : Repaint). (c.args.tally.now + y.broken) % 2 ^ 64) (sym painted);
+            counted = counted ∙ ap (λ (y : Repaint). (c.args.setter.now.tally + y.broken) % 2 ^ 64) (sym painted);
             few = omega (arith, ap length is, c.resume.new.rows.rows.ok.0, c.resume.new.rows.few);
           };
     }
