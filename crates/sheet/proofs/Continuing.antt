@@ -18,7 +18,6 @@ use Rattle.sheet.specs.Histories.{Event, History, State, Follows, Agrees, Agrees
 pub record KeepsUp (k : Making) (n : Clean) (s s' : State) : Type 0 where
   pub meaning : s'.meaning ≡ s.meaning
   pub rules : s'.rules ≡ s.rules
-  pub sound : s'.sound
   pub measure : s'.measure ≡ n.measure
   pub text : s'.text ≡ n.text
   pub owed : s'.owed ≡ n.owed
@@ -34,7 +33,6 @@ module _ (k : Making) (h : History) (s s' : State) (call : Call) (answer : Answe
   goes_on f a up shows = record {
     meaning = up.meaning ∙ f.meaning;
     rules = up.rules ∙ f.rules;
-    sound = up.sound;
     measure = up.measure;
     text = up.text;
     owed = up.owed;
@@ -68,18 +66,20 @@ module _ (k : Making) (h : History) (s s' : State) (call : Call) (answer : Answe
 pub record Owes (s s' : State) (o : Option Repaint) : Type 0 where
   pub meaning : s'.meaning ≡ s.meaning
   pub rules : s'.rules ≡ s.rules
-  pub sound : s.sound → s'.sound
   pub measure : s'.measure ≡ s.measure
   pub text : s'.text ≡ s.text
   pub rows : s'.rows ≡ s.rows
   pub owed : s'.owed ≡ o
+
+-- a sheet owes what it owes
+pub as_it_was : (s : State) → Owes s s s.owed
+as_it_was s = record { meaning = refl; rules = refl; measure = refl; text = refl; rows = refl; owed = refl }
 
 module _ (k : Making) (h : History) (s s' : State) (f : Follows k h s) where
   keeps_up : (o o' : Option Repaint) → Owes s s' o → o ≡ o' → KeepsUp k (record { text = (clean_after k h).text; measure = (clean_after k h).measure; owed = o' }) s s'
   keeps_up o o' w e = record {
     meaning = w.meaning;
     rules = w.rules;
-    sound = w.sound f.sound;
     measure = w.measure ∙ f.measure;
     text = w.text ∙ f.text;
     owed = w.owed ∙ e;
@@ -111,7 +111,7 @@ module _ (k : Making) (h : History) (s s' : State) (f : Follows k h s) where
   pub unsettled_call : s.owed ≡ None → Owes s s' None → Follows k (event settle (refused (7 ∷ [])) s' ∷ h) s'
   unsettled_call o w =
       let is : (clean_after k h).owed ≡ None = sym f.owed ∙ o in
-      refused_call settle (7 ∷ []) (ap (settle_by (clean_after k h)) is) (record { meaning = w.meaning; rules = w.rules; sound = w.sound; measure = w.measure; text = w.text; rows = w.rows; owed = w.owed ∙ sym o })
+      refused_call settle (7 ∷ []) (ap (settle_by (clean_after k h)) is) (record { meaning = w.meaning; rules = w.rules; measure = w.measure; text = w.text; rows = w.rows; owed = w.owed ∙ sym o })
 
 -- what agrees all along agrees at each event
 agrees_at : (k : Making) (later earlier : History) (e : Event) → Agrees k (later ++ (e ∷ earlier)) → AgreesAt k e earlier

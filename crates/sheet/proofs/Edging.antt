@@ -56,7 +56,6 @@ module _ (k : Making) (h : History) (s : State) (f : Follows k h s) where
   stays s' w = record {
     meaning = w.meaning ∙ f.meaning;
     rules = w.rules ∙ f.rules;
-    sound = w.sound f.sound;
     measure = w.measure ∙ f.measure;
     text = w.text ∙ f.text;
     owed = w.owed ∙ f.owed;

@@ -52,7 +52,6 @@ module _ (k : Making) (c : Clean) (w : ℕ) where
 pub record Relays (s s' : State) (w : ℕ) (p : Repaint) : Type 0 where
   pub meaning : s'.meaning ≡ s.meaning
   pub rules : s'.rules ≡ s.rules
-  pub sound : s'.sound
   pub measure : s'.measure ≡ w
   pub text : s'.text ≡ s.text
   pub rows : s'.rows ≡ rows_of s.meaning s.rules w s.text
@@ -74,7 +73,6 @@ module _ (k : Making) (h : History) (s s' : State) (f : Follows k h s) (w : ℕ)
       (record {
         meaning = l.meaning;
         rules = l.rules;
-        sound = l.sound;
         measure = l.measure;
         text = l.text ∙ f.text;
         owed = l.owed ∙ ap Some (l.painted ∙ ap₂ (λ (a b : List Row). repaint_all (length a) (length b)) f.rows same_rows);

@@ -93,7 +93,6 @@ module _ (k : Making) (c : Clean) (at del : ℕ) (ins : List ℕ) where
 pub record Lays (s s' : State) (at del : ℕ) (ins : List ℕ) (p : Repaint) : Type 0 where
   pub meaning : s'.meaning ≡ s.meaning
   pub rules : s'.rules ≡ s.rules
-  pub sound : s'.sound
   pub measure : s'.measure ≡ s.measure
   pub text : s'.text ≡ edited s.text at del ins
   pub rows : s'.rows ≡ rows_of s.meaning s.rules s.measure (edited s.text at del ins)
@@ -129,7 +128,6 @@ module _ (k : Making) (h : History) (s s' : State) (f : Follows k h s) (at del :
       (record {
         meaning = l.meaning;
         rules = l.rules;
-        sound = l.sound;
         measure = l.measure ∙ f.measure;
         text = l.text ∙ ap (λ (t : List ℕ). edited t at del ins) f.text;
         owed = l.owed ∙ ap Some (l.painted ∙ ap₂ (repaint_of (edit_of at del ins)) f.rows same);

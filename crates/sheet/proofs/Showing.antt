@@ -14,7 +14,7 @@ use Rattle.sheet.specs.Clean.{Making, Clean, clean_rows, refuse, show_by, copied
 use Rattle.sheet.specs.Clean.Answer.{refused, shown}
 use Rattle.sheet.specs.Clean.Call.{row}
 use Rattle.sheet.specs.Histories.{History, State, Follows, clean_after, event}
-use Rattle.sheet.proofs.Continuing.{Owes, goes_on_by, refused_call}
+use Rattle.sheet.proofs.Continuing.{as_it_was, goes_on_by, refused_call}
 
 -- a row lies within its text
 pub record Inside (t : List ℕ) (r : Row) : Type 0 where
@@ -40,11 +40,8 @@ module _ (c : Clean) (buffer : List ℕ) where
   shows_it r h = cc (le-leb (r.end - r.start) (length buffer) h)
 
 module _ (k : Making) (h : History) (s : State) (f : Follows k h s) (i : ℕ) (buffer : List ℕ) where
-  as_it_was : Owes s s s.owed
-  as_it_was = record { meaning = refl; rules = refl; sound = λ x. x; measure = refl; text = refl; rows = refl; owed = refl }
-
   pub no_such_row : slice_get s.rows i ≡ None → Follows k (event (row i buffer) (refused (8 ∷ [])) s ∷ h) s
-  no_such_row e = refused_call k h s s f (row i buffer) (8 ∷ []) (ap (λ (o : Option Row). show_by (clean_after k h) o buffer) (ap (λ (rs : List Row). slice_get rs i) (sym f.rows) ∙ e)) as_it_was
+  no_such_row e = refused_call k h s s f (row i buffer) (8 ∷ []) (ap (λ (o : Option Row). show_by (clean_after k h) o buffer) (ap (λ (rs : List Row). slice_get rs i) (sym f.rows) ∙ e)) (as_it_was s)
 
   module _ (r : Row) (there : slice_get s.rows i ≡ Some r) where
     at_clean : slice_get (clean_rows k (clean_after k h)) i ≡ Some r
@@ -54,7 +51,7 @@ module _ (k : Making) (h : History) (s : State) (f : Follows k h s) (i : ℕ) (b
     inside = subst (λ (t : List ℕ). Inside t r) (sym f.text) (rows_inside k.meaning k.rules (clean_after k h).measure (clean_after k h).text (all_rows k.meaning k.rules (clean_after k h).measure (clean_after k h).text f.covered) i r at_clean)
 
     pub short_buffer : length buffer < r.end - r.start → Follows k (event (row i buffer) (refused (9 ∷ [])) s ∷ h) s
-    short_buffer l = refused_call k h s s f (row i buffer) (9 ∷ []) (ap (λ (o : Option Row). show_by (clean_after k h) o buffer) at_clean ∙ too_short (clean_after k h) buffer r l) as_it_was
+    short_buffer l = refused_call k h s s f (row i buffer) (9 ∷ []) (ap (λ (o : Option Row). show_by (clean_after k h) o buffer) at_clean ∙ too_short (clean_after k h) buffer r l) (as_it_was s)
 
     pub shown_row : (b : List ℕ) → b ≡ copied s.text r buffer → r.end - r.start ≤ length buffer → Follows k (event (row i buffer) (shown r b) s ∷ h) s
     shown_row b is l =
@@ -64,7 +61,6 @@ module _ (k : Making) (h : History) (s : State) (f : Follows k h s) (i : ℕ) (b
         (record {
           meaning = refl;
           rules = refl;
-          sound = f.sound;
           measure = f.measure;
           text = f.text;
           owed = f.owed;

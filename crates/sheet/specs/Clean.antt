@@ -1,23 +1,20 @@
 -- The clean sheet: it is fed only the arguments of the making and of the calls, and lays all its rows anew.
 use Rattle.std.specs.Prelude.{ℕ, ◌+◌, ◌-◌, true, false, ◌&&◌, List, [], ◌∷◌, ◌++◌, length, drop, Some, None, Option, nat_le}
 use Rattle.std.specs.List.{slice_get}
-use Rattle.metrics.specs.Meaning.{Meaning}
-use Rattle.page.specs.Policies.{Rules}
 use Rattle.page.specs.Texts.{edited, part, most_characters}
 use Rattle.page.specs.declared.ending.Ending.TheVariants.{End}
 use Rattle.page.specs.declared.row.Row.{Row}
 use Rattle.layout.specs.Covers.{first_uncovered, told}
 use Rattle.layout.specs.Layouts.{most_rows}
+use Rattle.layout.specs.Styles.{Style}
 use Rattle.reflow.specs.Edits.{rows_of}
 use Rattle.reflow.specs.Repaints.{repaint_of, repaint_all, repaint_same}
 use Rattle.reflow.specs.declared.edit.Edit.{Edit}
 use Rattle.reflow.specs.declared.repaint.Repaint.{Repaint}
 
--- what a sheet is made from
-pub record Making : Type 0 where
-  pub meaning : Meaning
-  pub rules : Rules
-  pub measure : ℕ
+-- what a sheet is made from: the style that its text is set in at first
+abbrev pub Making : Type 0
+Making = Style
 
 -- a text, a measure, and the record that is owed
 pub record Clean : Type 0 where

@@ -65,10 +65,9 @@ due None sheet screen = screen
 due (Some p) sheet screen = followed p sheet screen
 
 -- what a worked sheet is, apart from its tally
-pub record State : Type 1 where
+pub record State : Type 0 where
   pub meaning : Meaning
   pub rules : Rules
-  pub sound : Type 0
   pub measure : ℕ
   pub text : List ℕ
   pub rows : List Row
@@ -78,7 +77,6 @@ pub record State : Type 1 where
 pub record Follows (k : Making) (h : History) (s : State) : Type 0 where
   pub meaning : s.meaning ≡ k.meaning
   pub rules : s.rules ≡ k.rules
-  pub sound : s.sound
   pub measure : s.measure ≡ (clean_after k h).measure
   pub text : s.text ≡ (clean_after k h).text
   pub owed : s.owed ≡ (clean_after k h).owed

@@ -6,12 +6,11 @@ use Rattle.buffer.specs.Held.{held}
 use Rattle.sheet.specs.Histories.{State}
 use Rattle.sheet.specs.declared.sheet.Sheet.{Sheet}
 
-abbrev pub state : {M P : Type 0} → (M → Meaning) → (M → Type 0) → (P → Rules) → Sheet M P → State
-state meaning sound rules s = record {
-  meaning = meaning s.measurer;
-  rules = rules s.policy;
-  sound = sound s.measurer;
-  measure = s.measure.units;
+abbrev pub state : {M P : Type 0} → (M → Meaning) → (P → Rules) → Sheet M P → State
+state meaning rules s = record {
+  meaning = meaning s.setter.measurer;
+  rules = rules s.setter.policy;
+  measure = s.setter.measure.units;
   text = held s.text;
   rows = vec_items s.rows.rows;
   owed = s.owed;

@@ -1,7 +1,7 @@
 // The sheet.
 use buffer::gap_buffer::GapBuffer;
 use layout::row_list::RowList;
-use page::measure::Measure;
+use layout::setter::Setter;
 use reflow::repaint::Repaint;
 
 mod calls;
@@ -13,14 +13,11 @@ mod making;
 // accepted, so that a refusal has nothing to undo.
 #[derive(Drop)]
 pub struct Sheet<M, P> {
-    measurer: M,
-    policy: P,
-    measure: Measure,
+    setter: Setter<M, P>,
     text: GapBuffer,
     rows: RowList,
     spare: RowList,
     owed: Option<Repaint>,
-    tally: u64,
 }
 
 // A debt of one repaint. Whoever has one must settle it: it cannot be let go, nor settled twice.

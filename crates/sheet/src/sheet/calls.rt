@@ -18,8 +18,8 @@ use reflow::repaint::Repaint;
 impl<M: Measurer, P: Policy> Sheet<M, P> {
     // Has all rows painted again. It is never refused; its record takes the place of one that is owed.
     pub fn refresh(&mut self) -> Slip
-        ensures follows { Continues (state M.meaning M.sound P.rules self.old) refresh accepted (state M.meaning M.sound P.rules self.new) }
-        ensures counted { self.new.tally ≡ self.old.tally }
+        ensures follows { Continues (state M.meaning P.rules self.old) refresh accepted (state M.meaning P.rules self.new) }
+        ensures counted { self.new.setter.tally ≡ self.old.setter.tally }
     {
         let rows = self.rows.len();
         self.owed = Some(Repaint {
@@ -34,8 +34,8 @@ impl<M: Measurer, P: Policy> Sheet<M, P> {
 
     // Spends the slip of any sheet, and fills `record` with what is owed here.
     pub fn settle(&mut self, slip: Slip, record: &mut Repaint) -> Result<(), NothingOwed>
-        ensures follows { Continues (state M.meaning M.sound P.rules self.old) settle (settle_answer result «record».new) (state M.meaning M.sound P.rules self.new) }
-        ensures counted { self.new.tally ≡ self.old.tally }
+        ensures follows { Continues (state M.meaning P.rules self.old) settle (settle_answer result «record».new) (state M.meaning P.rules self.new) }
+        ensures counted { self.new.setter.tally ≡ self.old.setter.tally }
         ensures kept { OnErr result («record».new ≡ «record».old) }
     {
         let Slip { owes: () } = slip;
@@ -50,7 +50,7 @@ impl<M: Measurer, P: Policy> Sheet<M, P> {
 
     // Copies the characters of a row to the front of `buffer`, and answers the row's record.
     pub fn row(&self, number: usize, buffer: &mut [u8]) -> Result<Row, RowFault>
-        ensures follows { Continues (state M.meaning M.sound P.rules self.now) (row number buffer.old) (row_answer result buffer.new) (state M.meaning M.sound P.rules self.now) }
+        ensures follows { Continues (state M.meaning P.rules self.now) (row number buffer.old) (row_answer result buffer.new) (state M.meaning P.rules self.now) }
         ensures kept { OnErr result (buffer.new ≡ buffer.old) }
     {
         let rows = self.rows.as_slice();
@@ -83,8 +83,8 @@ impl<M: Measurer, P: Policy> Sheet<M, P> {
 
     // How many rows were broken since the sheet was made, modulo 2^64.
     pub fn tally(&self) -> u64
-        ensures { result ≡ self.now.tally }
+        ensures { result ≡ self.now.setter.tally }
     {
-        self.tally
+        self.setter.tally
     }
 }

@@ -11,7 +11,6 @@ use super::{Sheet, Slip};
 use crate::fault::{RemeasureFault, ReplaceFault};
 use buffer::edited_text::EditedText;
 use layout::cover::check_cover;
-use layout::laying::lay;
 use metrics::measurer::Measurer;
 use page::measure::Measure;
 use page::policy::Policy;
@@ -25,8 +24,8 @@ impl<M: Measurer, P: Policy> Sheet<M, P> {
     // Puts `ins` in place of the `del` characters at `at`. The text is laid as it would read, so that
     // a refusal has nothing to undo.
     pub fn replace(&mut self, at: usize, del: usize, ins: &[u8]) -> Result<Slip, ReplaceFault>
-        ensures follows { Continues (state M.meaning M.sound P.rules self.old) (replace at del ins.now) (replace_answer result) (state M.meaning M.sound P.rules self.new) }
-        ensures counted { (k : Making) (h : History) → Follows k h (state M.meaning M.sound P.rules self.old) → OnOk result ((p : Record) → self.new.owed ≡ Some p → self.new.tally ≡ (self.old.tally + p.broken) % 2 ^ 64) }
+        ensures follows { Continues (state M.meaning P.rules self.old) (replace at del ins.now) (replace_answer result) (state M.meaning P.rules self.new) }
+        ensures counted { (k : Making) (h : History) → Follows k h (state M.meaning P.rules self.old) → OnOk result ((p : Record) → self.new.owed ≡ Some p → self.new.setter.tally ≡ (self.old.setter.tally + p.broken) % 2 ^ 64) }
         ensures early { IfErr result (λ e. Early e → self.new ≡ self.old) }
     {
         if self.owed.is_some() {
@@ -39,7 +38,7 @@ impl<M: Measurer, P: Policy> Sheet<M, P> {
         if ins.len() > MAX_CHARACTERS - (len - del) {
             return Err(ReplaceFault::TooLong);
         }
-        check_cover(&mut self.measurer, ins)?;
+        check_cover(&mut self.setter.measurer, ins)?;
         let edit = Edit {
             at,
             del,
@@ -48,13 +47,10 @@ impl<M: Measurer, P: Policy> Sheet<M, P> {
         let view = EditedText::new(&self.text, at, del, ins);
         let record = relay(
             &view,
-            &mut self.measurer,
-            &self.policy,
-            self.measure,
+            &mut self.setter,
             edit,
             self.rows.as_slice(),
             &mut self.spare,
-            &mut self.tally,
         )?;
         swap(&mut self.rows, &mut self.spare);
         self.text.replace(at, del, ins);
@@ -64,34 +60,28 @@ impl<M: Measurer, P: Policy> Sheet<M, P> {
 
     // Sets the measure, and lays the whole text again.
     pub fn remeasure(&mut self, measure: Measure) -> Result<Slip, RemeasureFault>
-        ensures follows { Continues (state M.meaning M.sound P.rules self.old) (remeasure measure.units) (remeasure_answer result) (state M.meaning M.sound P.rules self.new) }
-        ensures counted { (k : Making) (h : History) → Follows k h (state M.meaning M.sound P.rules self.old) → OnOk result ((p : Record) → self.new.owed ≡ Some p → self.new.tally ≡ (self.old.tally + p.broken) % 2 ^ 64) }
+        ensures follows { Continues (state M.meaning P.rules self.old) (remeasure measure.units) (remeasure_answer result) (state M.meaning P.rules self.new) }
+        ensures counted { (k : Making) (h : History) → Follows k h (state M.meaning P.rules self.old) → OnOk result ((p : Record) → self.new.owed ≡ Some p → self.new.setter.tally ≡ (self.old.setter.tally + p.broken) % 2 ^ 64) }
         ensures early { IfErr result (λ e. EarlyMeasure e → self.new ≡ self.old) }
     {
         if self.owed.is_some() {
             return Err(RemeasureFault::Owed);
         }
-        let before = self.tally;
-        if lay(
-            &self.text,
-            &mut self.measurer,
-            &self.policy,
-            measure,
-            &mut self.spare,
-            &mut self.tally,
-        )
-        .is_err()
-        {
+        let before = self.setter.tally;
+        let old = self.setter.measure;
+        self.setter.measure = measure;
+        let laid = self.setter.lay(&self.text, &mut self.spare);
+        if laid.is_err() {
+            self.setter.measure = old;
             return Err(RemeasureFault::TooManyRows);
         }
         swap(&mut self.rows, &mut self.spare);
-        self.measure = measure;
         self.owed = Some(Repaint {
             whole: true,
             from: 0,
             removed: self.spare.len(),
             put: self.rows.len(),
-            broken: self.tally.wrapping_sub(before),
+            broken: self.setter.tally.wrapping_sub(before),
         });
         Ok(Slip { owes: () })
     }

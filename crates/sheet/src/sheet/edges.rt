@@ -18,10 +18,10 @@ impl<M: Measurer, P: Policy> Sheet<M, P> {
     // Writes the edge behind each character of a row to the front of `edges`, and answers the row's
     // record.
     pub fn edges(&mut self, number: usize, edges: &mut [u32]) -> Result<Row, RowFault>
-        ensures follows { (k : Making) (h : History) → Follows k h (state M.meaning M.sound P.rules self.old) → Follows k h (state M.meaning M.sound P.rules self.new) }
-        ensures value { (k : Making) (h : History) → Follows k h (state M.meaning M.sound P.rules self.old) → row_answer result edges.new ≡ edges_step k (clean_after k h) number edges.old }
+        ensures follows { (k : Making) (h : History) → Follows k h (state M.meaning P.rules self.old) → Follows k h (state M.meaning P.rules self.new) }
+        ensures value { (k : Making) (h : History) → Follows k h (state M.meaning P.rules self.old) → row_answer result edges.new ≡ edges_step k (clean_after k h) number edges.old }
         ensures kept { OnErr result ((edges.new ≡ edges.old) × (self.new ≡ self.old)) }
-        ensures counted { self.new.tally ≡ self.old.tally }
+        ensures counted { self.new.setter.tally ≡ self.old.setter.tally }
         ensures text { self.new.text ≡ self.old.text }
         ensures rows { self.new.rows ≡ self.old.rows }
         ensures owed { self.new.owed ≡ self.old.owed }
@@ -36,7 +36,7 @@ impl<M: Measurer, P: Policy> Sheet<M, P> {
         if end - start > edges.len() {
             return Err(RowFault::ShortBuffer);
         }
-        write_edges(&self.text, &mut self.measurer, start, end, edges);
+        write_edges(&self.text, &mut self.setter.measurer, start, end, edges);
         Ok(row)
     }
 }

@@ -50,10 +50,10 @@ returns g c =
     let i = c.args.number in
     let r = get_or rows i zero_row in
     let t = held c.args.self.now.text in
-    let m = g.M.Measurer.meaning c.args.self.now.measurer in
+    let m = g.M.Measurer.meaning c.args.self.now.setter.measurer in
     let b = c.args.edges.now in
     record {
-      follows = λ k h f. stays k h _ f _ (record { meaning = c.write_edges.ensures.same; rules = refl; sound = c.write_edges.ensures.stays; measure = refl; text = refl; rows = refl; owed = refl });
+      follows = λ k h f. stays k h _ f _ (record { meaning = c.write_edges.ensures.same; rules = refl; measure = refl; text = refl; rows = refl; owed = refl });
       value = λ k h f.
           let there = ap (λ (rs : List Row). slice_get rs i) (sym c.as_slice-rows.ensures) ∙ slice_get-get_or rows i zero_row c.if-number-rows.false in
           let lies = inside k h _ f i b r there in
@@ -62,7 +62,7 @@ returns g c =
           let covered = subst₂ (λ (x y : ℕ). AllCovered m (part t x y)) (sym from) (sym to) (covers k h _ f i b r there) in
           let long : length (part t c.min-start.result c.min-end.result) ≡ r.end - r.start = length_part t c.min-start.result c.min-end.result (omega (arith, lies.within, to)) ∙ ap₂ ◌-◌ to from in
           told_edges k h _ f i b r there c.write_edges.new.edges
-          (c.write_edges.ensures.value f.sound covered (omega (arith, long, c.if-end-start.false, to, from))
+          (c.write_edges.ensures.value covered (omega (arith, long, c.if-end-start.false, to, from))
           ∙ ap (λ (n : ℕ). edges_of m (part t c.min-start.result c.min-end.result) ++ drop n b) long
           ∙ ap₂ (λ (x y : ℕ). edges_of m (part t x y) ++ drop (r.end - r.start) b) from to)
           (omega (arith, c.if-end-start.false, to, from));

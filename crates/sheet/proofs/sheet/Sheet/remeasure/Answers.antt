@@ -1,17 +1,19 @@
 -- Each way out is a way of the clean sheet's remeasure.
 use Rattle.std.proofs.Common.{◌≡◌, ℕ, ◌+◌, ◌-◌, ◌%◌, ◌^◌, ◌<◌, true, length, Some, vec_items, sym, refl, ap, ◌∙◌, subst₂, arith}
+use Rattle.layout.specs.Styles.{Style}
 use Rattle.layout.specs.Covers.{Covered}
 use Rattle.layout.specs.declared.row_list.RowList.{RowList}
 use Rattle.buffer.specs.Held.{held}
 use Rattle.reflow.specs.Edits.{rows_of}
 use Rattle.reflow.specs.declared.repaint.Repaint.{Repaint}
 use Rattle.sheet.proofs.Remeasuring.{laid_all, all_few, broken_all, grown, laid_right, refused_layout, remeasured_call, refused_owed, refused_many}
+use Rattle.sheet.proofs.Continuing.{as_it_was}
 use Rattle.sheet.proofs.Replacing.{none_owed}
 use Rattle.sheet.proofs.sheet.Sheet.remeasure.Goals as goal
 
 pub returns-then-is_some : goal.returns-then-is_some
 returns-then-is_some g c = record {
-  follows = λ k h f. refused_owed k h _ _ f c.args.measure.units (sym c.if-is_some.ensures) (record { meaning = refl; rules = refl; sound = λ s. s; measure = refl; text = refl; rows = refl; owed = refl });
+  follows = λ k h f. refused_owed k h _ _ f c.args.measure.units (sym c.if-is_some.ensures) (as_it_was _);
   counted = λ k h f. tt;
   early = λ _. refl;
 }
@@ -19,16 +21,16 @@ returns-then-is_some g c = record {
 pub returns-then-is_err : goal.returns-then-is_err
 returns-then-is_err g c =
     let none = none_owed c.args.self.now.owed (sym c.is_some.ensures ∙ c.if-is_some.false) in
-    let m = g.M.Measurer.meaning c.args.self.now.measurer in
-    let P = g.P.Policy.rules c.args.self.now.policy in
+    let m = g.M.Measurer.meaning c.args.self.now.setter.measurer in
+    let P = g.P.Policy.rules c.args.self.now.setter.policy in
     let w = c.args.measure.units in
     let t = held c.args.self.now.text in
     record {
       follows = λ k h f.
           let v : Covered m t = subst₂ Covered (sym f.meaning) (sym f.text) f.covered in
           refused_many k h _ _ f w none
-          (refused_layout m P w t v c.lay.result (sym (c.lay.ensures.value f.sound)) (sym c.if-is_err.ensures.value))
-          (record { meaning = c.lay.ensures.same; rules = refl; sound = c.lay.ensures.stays; measure = refl; text = refl; rows = refl; owed = refl });
+          (refused_layout m P w t v c.lay-laid.result (sym c.lay-laid.ensures.value) (sym c.if-is_err.ensures.value))
+          (record { meaning = ap (λ (x : Style). x.meaning) c.lay-laid.ensures.kept; rules = ap (λ (x : Style). x.rules) c.lay-laid.ensures.kept; measure = refl; text = refl; rows = refl; owed = refl });
       counted = λ k h f. tt;
       early = λ x. absurd x;
     }
@@ -36,26 +38,25 @@ returns-then-is_err g c =
 pub returns : goal.returns
 returns g c =
     let none = none_owed c.args.self.now.owed (sym c.is_some.ensures ∙ c.if-is_some.false) in
-    let m = g.M.Measurer.meaning c.args.self.now.measurer in
-    let P = g.P.Policy.rules c.args.self.now.policy in
+    let m = g.M.Measurer.meaning c.args.self.now.setter.measurer in
+    let P = g.P.Policy.rules c.args.self.now.setter.policy in
     let w = c.args.measure.units in
     let t = held c.args.self.now.text in
-    let fits : c.args.self.now.tally < 2 ^ 64 = omega arith in
+    let fits : c.args.self.now.setter.tally < 2 ^ 64 = omega arith in
     let new-len : c.len-2.result ≡ length (vec_items c.swap.new.x.rows) = c.len-2.ensures ∙ c.swap.new.x.rows.ok.0 in
     let old-len : c.len.result ≡ length (vec_items c.args.self.now.rows.rows) = c.len.ensures ∙ c.swap.new.y.rows.ok.0 ∙ ap (λ (l : RowList). length (vec_items l.rows)) c.swap.ensures.y_after in
     record {
       follows = λ k h f.
           let v : Covered m t = subst₂ Covered (sym f.meaning) (sym f.text) f.covered in
-          let ok = sym (c.lay.ensures.value f.sound) ∙ laid_right c.lay.result (sym c.is_err.ensures.value ∙ c.if-is_err.false) in
-          let items : vec_items c.swap.new.x.rows ≡ rows_of m P w t = ap (λ (l : RowList). vec_items l.rows) c.swap.ensures.x_after ∙ c.lay.ensures.items f.sound ∙ laid_all m P w t v ok in
+          let ok = sym c.lay-laid.ensures.value ∙ laid_right c.lay-laid.result (sym c.is_err.ensures.value ∙ c.if-is_err.false) in
+          let items : vec_items c.swap.new.x.rows ≡ rows_of m P w t = ap (λ (l : RowList). vec_items l.rows) c.swap.ensures.x_after ∙ c.lay-laid.ensures.items ∙ laid_all m P w t v ok in
           let new : c.len-2.result ≡ length (rows_of m P w t) = new-len ∙ ap length items in
-          let broken : (c.lay.new.tally + (2 ^ 64 - c.args.self.now.tally)) % 2 ^ 64 ≡ length (rows_of m P w t) =
-          grown c.args.self.now.tally c.lay.new.tally (length (rows_of m P w t)) fits (all_few m P w t v ok) (c.lay.ensures.counted f.sound ∙ ap (λ (n : ℕ). (c.args.self.now.tally + n) % 2 ^ 64) (broken_all m P w t v ok)) in
+          let broken : (c.lay-laid.new.self.tally + (2 ^ 64 - c.args.self.now.setter.tally)) % 2 ^ 64 ≡ length (rows_of m P w t) =
+          grown c.args.self.now.setter.tally c.lay-laid.new.self.tally (length (rows_of m P w t)) fits (all_few m P w t v ok) (c.lay-laid.ensures.counted ∙ ap (λ (n : ℕ). (c.args.self.now.setter.tally + n) % 2 ^ 64) (broken_all m P w t v ok)) in
           remeasured_call k h _ _ f w _ none (record {
-            meaning = c.lay.ensures.same;
-            rules = refl;
-            sound = c.lay.ensures.stays f.sound;
-            measure = refl;
+            meaning = ap (λ (x : Style). x.meaning) c.lay-laid.ensures.kept;
+            rules = ap (λ (x : Style). x.rules) c.lay-laid.ensures.kept;
+            measure = ap (λ (x : Style). x.measure) c.lay-laid.ensures.kept;
             text = refl;
             rows = items;
             few_rows = all_few m P w t v ok;
@@ -64,11 +65,11 @@ returns g c =
           });
       counted = λ k h f p is.
           let v : Covered m t = subst₂ Covered (sym f.meaning) (sym f.text) f.covered in
-          let ok = sym (c.lay.ensures.value f.sound) ∙ laid_right c.lay.result (sym c.is_err.ensures.value ∙ c.if-is_err.false) in
-          let told = c.lay.ensures.counted f.sound ∙ ap (λ (n : ℕ). (c.args.self.now.tally + n) % 2 ^ 64) (broken_all m P w t v ok) in
-          let broken : (c.lay.new.tally + (2 ^ 64 - c.args.self.now.tally)) % 2 ^ 64 ≡ length (rows_of m P w t) = grown c.args.self.now.tally c.lay.new.tally (length (rows_of m P w t)) fits (all_few m P w t v ok) told in
-          let same : (c.lay.new.tally + (2 ^ 64 - c.args.self.now.tally)) % 2 ^ 64 ≡ p.broken = broken_of p is in
-          told ∙ ap (λ (n : ℕ). (c.args.self.now.tally + n) % 2 ^ 64) (sym broken ∙ same);
+          let ok = sym c.lay-laid.ensures.value ∙ laid_right c.lay-laid.result (sym c.is_err.ensures.value ∙ c.if-is_err.false) in
+          let told = c.lay-laid.ensures.counted ∙ ap (λ (n : ℕ). (c.args.self.now.setter.tally + n) % 2 ^ 64) (broken_all m P w t v ok) in
+          let broken : (c.lay-laid.new.self.tally + (2 ^ 64 - c.args.self.now.setter.tally)) % 2 ^ 64 ≡ length (rows_of m P w t) = grown c.args.self.now.setter.tally c.lay-laid.new.self.tally (length (rows_of m P w t)) fits (all_few m P w t v ok) told in
+          let same : (c.lay-laid.new.self.tally + (2 ^ 64 - c.args.self.now.setter.tally)) % 2 ^ 64 ≡ p.broken = broken_of p is in
+          told ∙ ap (λ (n : ℕ). (c.args.self.now.setter.tally + n) % 2 ^ 64) (sym broken ∙ same);
       early = tt;
     }
   where

@@ -4,6 +4,7 @@ use Rattle.std.proofs.lemmas.Result.{err_from_is_err_and}
 use Rattle.metrics.specs.Meaning.{Meaning}
 use Rattle.page.specs.Texts.{edited}
 use Rattle.layout.proofs.Settling.{told_some, told_none}
+use Rattle.layout.specs.Styles.{Style}
 use Rattle.layout.specs.Covers.{first_uncovered}
 use Rattle.layout.specs.Layouts.{most_rows}
 use Rattle.buffer.specs.Held.{held}
@@ -14,13 +15,14 @@ use Rattle.reflow.specs.Repaints.{repaint_of}
 use Rattle.reflow.specs.Theorems.{Editing}
 use Rattle.reflow.specs.declared.repaint.Repaint.{Repaint}
 use Rattle.sheet.specs.Clean.{edit_of}
+use Rattle.sheet.proofs.Continuing.{as_it_was}
 use Rattle.sheet.proofs.Replacing.{none_owed, own_rows, never_early, editing, replaced_call, refused_owed, refused_out, refused_long, refused_glyph, refused_many}
 use Rattle.sheet.proofs.sheet.Sheet.replace.Goals as goal
 use Rattle.sheet.proofs.sheet.Sheet.replace.Goals.{then-at-len-via-then-at-len, then-at-len-via-else-at-len+then-del-len}
 
 pub returns-then-is_some : goal.returns-then-is_some
 returns-then-is_some g c = record {
-  follows = λ k h f. refused_owed k h _ _ f c.args.at c.args.del c.args.ins.now (record { meaning = refl; rules = refl; sound = λ s. s; measure = refl; text = refl; rows = refl; owed = refl }) (sym c.if-is_some.ensures);
+  follows = λ k h f. refused_owed k h _ _ f c.args.at c.args.del c.args.ins.now (as_it_was _) (sym c.if-is_some.ensures);
   counted = λ k h f. tt;
   early = λ _. refl;
 }
@@ -34,7 +36,7 @@ returns-then-at-len g c =
       | then-at-len-via-else-at-len+then-del-len w ↦ λ a b. omega (arith, w.if-del-len.true)
     ] in
     record {
-      follows = λ k h f. refused_out k h _ _ f c.args.at c.args.del c.args.ins.now (record { meaning = refl; rules = refl; sound = λ s. s; measure = refl; text = refl; rows = refl; owed = refl }) none out;
+      follows = λ k h f. refused_out k h _ _ f c.args.at c.args.del c.args.ins.now (as_it_was _) none out;
       counted = λ k h f. tt;
       early = λ _. refl;
     }
@@ -45,7 +47,7 @@ returns-then-ins-len g c =
     let n = c.len-len.ensures.value in
     let few = c.len-len.ensures.few in
     record {
-      follows = λ k h f. refused_long k h _ _ f c.args.at c.args.del c.args.ins.now (record { meaning = refl; rules = refl; sound = λ s. s; measure = refl; text = refl; rows = refl; owed = refl }) none (omega arith) (omega arith) (omega arith);
+      follows = λ k h f. refused_long k h _ _ f c.args.at c.args.del c.args.ins.now (as_it_was _) none (omega arith) (omega arith) (omega arith);
       counted = λ k h f. tt;
       early = λ _. refl;
     }
@@ -57,12 +59,12 @@ returns-in_err-check_cover g c =
     let few = c.len-len.ensures.few in
     let told = c.in_err-check_cover.ensures in
     let u = c.in_err-check_cover.field-0.0 in
-    let m = g.M.Measurer.meaning c.args.self.now.measurer in
+    let m = g.M.Measurer.meaning c.args.self.now.setter.measurer in
     let p = err_from_is_err_and c.from_residual.result c.from_residual.ensures.1 in
     record {
       follows = λ k h f. rw (p.1, p.2) (refused_glyph k h _ _ f c.args.at c.args.del c.args.ins.now
-          (record { meaning = told.same; rules = refl; sound = told.stays; measure = refl; text = refl; rows = refl; owed = refl })
-          none (omega arith) (omega arith) (omega arith) u (told_some (first_uncovered m 0 c.args.ins.now) u (told.value f.sound)));
+          (record { meaning = told.same; rules = refl; measure = refl; text = refl; rows = refl; owed = refl })
+          none (omega arith) (omega arith) (omega arith) u (told_some (first_uncovered m 0 c.args.ins.now) u told.value));
       counted = λ k h f. rw p.1 tt;
       early = rw (p.1, p.2) (λ x. absurd x);
     }
@@ -76,10 +78,10 @@ returns-in_err-record g c =
     let ins = c.args.ins.now in
     let checked = c.in_ok-check_cover.ensures in
     let told = c.in_err-record.ensures in
-    let m = g.M.Measurer.meaning c.args.self.now.measurer in
+    let m = g.M.Measurer.meaning c.args.self.now.setter.measurer in
     let m' = g.M.Measurer.meaning c.check_cover.new.measurer in
-    let P = g.P.Policy.rules c.args.self.now.policy in
-    let w = c.args.self.now.measure.units in
+    let P = g.P.Policy.rules c.args.self.now.setter.policy in
+    let w = c.args.self.now.setter.measure.units in
     let at = c.args.at in
     let del = c.args.del in
     let in-text : at ≤ length t = omega arith in
@@ -88,13 +90,13 @@ returns-in_err-record g c =
     let p = err_from_is_err_and c.from_residual-in_err-record.result c.from_residual-in_err-record.ensures.1 in
     record {
       follows = λ k h f.
-          let glyphs : first_uncovered m 0 ins ≡ None = told_none (first_uncovered m 0 ins) tt (checked.value f.sound) in
+          let glyphs : first_uncovered m 0 ins ≡ None = told_none (first_uncovered m 0 ins) tt checked.value in
           let ed = subst (λ (x : Meaning). Editing x P w t ins (edit_of at del ins)) (sym checked.same) (editing k h _ f at del ins in-text in_rest glyphs) in
           let old = c.as_slice.ensures ∙ own_rows k h _ f ∙ ap (λ (x : Meaning). rows_of x P w t) (sym checked.same) in
-          let x = told.relaid (checked.stays f.sound) t ins c.new-view.ensures ed old in
+          let x = told.relaid t ins c.new-view.ensures ed old in
           let conv : rows_of m' P w _ ≡ rows_of m P w (edited t at del ins) = ap₂ (λ (y : Meaning) (z : List ℕ). rows_of y P w z) checked.same c.new-view.ensures in
           rw (p.1, p.2, x.0) (refused_many k h _ _ f at del ins
-          (record { meaning = told.same ∙ checked.same; rules = refl; sound = λ s. told.stays (checked.stays s); measure = refl; text = refl; rows = refl; owed = refl })
+          (record { meaning = ap (λ (x : Style). x.meaning) told.kept ∙ checked.same; rules = ap (λ (x : Style). x.rules) told.kept; measure = ap (λ (x : Style). x.measure) told.kept; text = refl; rows = refl; owed = refl })
           none in-text in_rest fits glyphs (subst (λ (y : List Row). most_rows < length y) conv x.1));
       counted = λ k h f. rw p.1 tt;
       early = rw (p.1, p.2) (λ x. absurd (never_early c.in_err-record.field-0.0 x));
@@ -109,10 +111,10 @@ returns g c =
     let ins = c.args.ins.now in
     let checked = c.in_ok-check_cover.ensures in
     let told = c.in_ok-record.ensures in
-    let m = g.M.Measurer.meaning c.args.self.now.measurer in
+    let m = g.M.Measurer.meaning c.args.self.now.setter.measurer in
     let m' = g.M.Measurer.meaning c.check_cover.new.measurer in
-    let P = g.P.Policy.rules c.args.self.now.policy in
-    let w = c.args.self.now.measure.units in
+    let P = g.P.Policy.rules c.args.self.now.setter.policy in
+    let w = c.args.self.now.setter.measure.units in
     let at = c.args.at in
     let del = c.args.del in
     let in-text : at ≤ length t = omega arith in
@@ -120,16 +122,15 @@ returns g c =
     let fits : length t - del + length ins ≤ 4096 = omega arith in
     record {
       follows = λ k h f.
-          let glyphs : first_uncovered m 0 ins ≡ None = told_none (first_uncovered m 0 ins) tt (checked.value f.sound) in
+          let glyphs : first_uncovered m 0 ins ≡ None = told_none (first_uncovered m 0 ins) tt checked.value in
           let ed = subst (λ (x : Meaning). Editing x P w t ins (edit_of at del ins)) (sym checked.same) (editing k h _ f at del ins in-text in_rest glyphs) in
           let old = c.as_slice.ensures ∙ own_rows k h _ f ∙ ap (λ (x : Meaning). rows_of x P w t) (sym checked.same) in
-          let x = told.relaid (checked.stays f.sound) t ins c.new-view.ensures ed old in
+          let x = told.relaid t ins c.new-view.ensures ed old in
           let conv : rows_of m' P w _ ≡ rows_of m P w (edited t at del ins) = ap₂ (λ (y : Meaning) (z : List ℕ). rows_of y P w z) checked.same c.new-view.ensures in
           replaced_call k h _ _ f at del ins c.in_ok-record.record none in-text in_rest fits glyphs (record {
-            meaning = told.same ∙ checked.same;
-            rules = refl;
-            sound = told.stays (checked.stays f.sound);
-            measure = refl;
+            meaning = ap (λ (x : Style). x.meaning) told.kept ∙ checked.same;
+            rules = ap (λ (x : Style). x.rules) told.kept;
+            measure = ap (λ (x : Style). x.measure) told.kept;
             text = c.replace.ensures;
             rows = ap (λ (l : RowList). vec_items l.rows) c.swap.ensures.x_after ∙ x.items ∙ conv;
             few_rows = subst (λ (y : List Row). length y ≤ most_rows) conv x.few;
@@ -137,11 +138,11 @@ returns g c =
             painted = x.painted ∙ ap₂ (repaint_of (edit_of at del ins)) c.as_slice.ensures conv;
           });
       counted = λ k h f q is.
-          let glyphs : first_uncovered m 0 ins ≡ None = told_none (first_uncovered m 0 ins) tt (checked.value f.sound) in
+          let glyphs : first_uncovered m 0 ins ≡ None = told_none (first_uncovered m 0 ins) tt checked.value in
           let ed = subst (λ (x : Meaning). Editing x P w t ins (edit_of at del ins)) (sym checked.same) (editing k h _ f at del ins in-text in_rest glyphs) in
           let old = c.as_slice.ensures ∙ own_rows k h _ f ∙ ap (λ (x : Meaning). rows_of x P w t) (sym checked.same) in
-          let x = told.relaid (checked.stays f.sound) t ins c.new-view.ensures ed old in
+          let x = told.relaid t ins c.new-view.ensures ed old in
           let same : c.in_ok-record.record ≡ q = cc in
-          x.counted ∙ ap (λ (y : Repaint). (c.args.self.now.tally + y.broken) % 2 ^ 64) same;
+          x.counted ∙ ap (λ (y : Repaint). (c.args.self.now.setter.tally + y.broken) % 2 ^ 64) same;
       early = tt;
     }
