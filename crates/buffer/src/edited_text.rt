@@ -1,8 +1,6 @@
 // A text as it would be after an edit.
 ghost use Rattle.std.specs.Prelude.{◌≡◌, ◌+◌, ◌-◌, ◌≤◌, length};
-ghost use Rattle.page.specs.Texts.{most_characters};
-ghost use Rattle.page.specs.Texts.{edited};
-ghost use Rattle.buffer.specs.Held.{held};
+ghost use Rattle.page.specs.Texts.{edited, most_characters};
 
 use crate::gap_buffer::GapBuffer;
 use page::text::Characters;
@@ -14,22 +12,22 @@ pub struct EditedText<'t, 'i> {
     at: usize,
     del: usize,
     ins: &'i [u8],
-    ghost within: { at + del ≤ length (held text.now) },
-    ghost few: { length (held text.now) - del + length ins.now ≤ most_characters },
+    ghost within: { at + del ≤ length text.now },
+    ghost few: { length text.now - del + length ins.now ≤ most_characters },
 }
 
 impl<'t, 'i> EditedText<'t, 'i> {
     pub fn new(text: &'t GapBuffer, at: usize, del: usize, ins: &'i [u8]) -> EditedText<'t, 'i>
-        requires within { at + del ≤ length (held text.now) }
-        requires few { length (held text.now) - del + length ins.now ≤ most_characters }
-        ensures { edited (held result.text.now) result.at result.del result.ins.now ≡ edited (held text.now) at del ins.now }
+        requires within { at + del ≤ length text.now }
+        requires few { length text.now - del + length ins.now ≤ most_characters }
+        ensures { edited result.text.now result.at result.del result.ins.now ≡ edited text.now at del ins.now }
     {
         EditedText { text, at, del, ins }
     }
 }
 
 impl Characters for EditedText<'_, '_> {
-    ghost chars = { λ e. edited (held e.text.now) e.at e.del e.ins.now };
+    ghost chars = { λ e. edited e.text.now e.at e.del e.ins.now };
 
     fn len(&self) -> usize {
         self.text.len() - self.del + self.ins.len()
@@ -40,10 +38,10 @@ impl Characters for EditedText<'_, '_> {
             self.text.get(at)
         } else if at < self.at + self.ins.len() {
             Some(self.ins[at - self.at])
-        } else if at < self.len() {
-            self.text.get(at - self.ins.len() + self.del)
         } else {
-            None
+            // as far from the end as in the text
+            let left = self.len().checked_sub(at)?;
+            self.text.get(self.text.len() - left)
         }
     }
 }

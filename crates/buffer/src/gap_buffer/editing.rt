@@ -1,8 +1,7 @@
 // Edits of the text in a gap buffer.
 ghost use Rattle.std.specs.Prelude.{◌≡◌, ◌+◌, ◌-◌, ◌≤◌, [], length, IfOk};
-ghost use Rattle.page.specs.Texts.{most_characters};
-ghost use Rattle.page.specs.Texts.{edited};
-ghost use Rattle.buffer.specs.Held.{held};
+ghost use Rattle.page.specs.Texts.{edited, most_characters};
+ghost use Rattle.buffer.specs.Gaps.{around};
 
 use super::GapBuffer;
 use page::text::MAX_CHARACTERS;
@@ -10,7 +9,7 @@ use std::alloc::{AllocError, Global};
 
 impl GapBuffer {
     pub fn new(heap: Global) -> Result<GapBuffer, AllocError>
-        ensures { IfOk result (λ g. held g ≡ []) }
+        ensures { IfOk result (λ g. g ≡ []) }
     {
         let bytes = vec![in heap; 0; MAX_CHARACTERS]?;
         Ok(GapBuffer {
@@ -22,61 +21,32 @@ impl GapBuffer {
 
     // Puts `ins` in place of the `del` characters at `at`.
     pub fn replace(&mut self, at: usize, del: usize, ins: &[u8])
-        requires within { at + del ≤ length (held self.old) }
-        requires room { length (held self.old) - del + length ins.now ≤ most_characters }
-        ensures { held self.new ≡ edited (held self.old) at del ins.now }
+        requires within { at + del ≤ length self.old }
+        requires room { length self.old - del + length ins.now ≤ most_characters }
+        ensures { self.new ≡ edited self.old at del ins.now }
     {
-        self.move_gap(at);
-        self.gap_end += del;
-        self.insert(ins);
+        let end = move_gap(&mut self.bytes, self.gap_start, self.gap_end, at);
+        let start = at + ins.len();
+        self.bytes[at..start].copy_from_slice(ins);
+        self.gap_start = start;
+        self.gap_end = end + del;
     }
+}
 
-    fn move_gap(&mut self, at: usize)
-        requires { at ≤ length (held self.old) }
-        ensures same { held self.new ≡ held self.old }
-        ensures moved { self.new.gap_start ≡ at }
-    {
-        if at < self.gap_start {
-            self.move_left(at);
-        } else {
-            self.move_right(at);
-        }
+// Moves the gap [start, end) to `at`, and answers where it then ends.
+fn move_gap(bytes: &mut Vec<u8>, start: usize, end: usize, at: usize) -> usize
+    requires forward { start ≤ end }
+    requires within { at + (end - start) ≤ length bytes.old.items }
+    requires gap { end ≤ length bytes.old.items }
+    ensures same { around bytes.new.items at result ≡ around bytes.old.items start end }
+    ensures wide { result ≡ at + (end - start) }
+    ensures full { length bytes.new.items ≡ length bytes.old.items }
+{
+    let moved = at + (end - start);
+    if at < start {
+        bytes.copy_within(at..start, moved);
+    } else {
+        bytes.copy_within(end..moved, start);
     }
-
-    // The characters from `at` up to the gap go behind it, the last one first.
-    fn move_left(&mut self, at: usize)
-        requires { at ≤ self.old.gap_start }
-        ensures same { held self.new ≡ held self.old }
-        ensures moved { self.new.gap_start ≡ at }
-    {
-        'turn: while self.gap_start > at {
-            self.gap_start -= 1;
-            self.gap_end -= 1;
-            self.bytes[self.gap_end] = self.bytes[self.gap_start];
-        }
-    }
-
-    // The characters behind the gap go before it, until it starts at `at`.
-    fn move_right(&mut self, at: usize)
-        requires ahead { self.old.gap_start ≤ at }
-        requires within { at ≤ length (held self.old) }
-        ensures same { held self.new ≡ held self.old }
-        ensures moved { self.new.gap_start ≡ at }
-    {
-        'turn: while self.gap_start < at {
-            self.bytes[self.gap_start] = self.bytes[self.gap_end];
-            self.gap_start += 1;
-            self.gap_end += 1;
-        }
-    }
-
-    // Writes `ins` to the front of the gap.
-    fn insert(&mut self, ins: &[u8])
-        requires { self.old.gap_start + length ins.now ≤ self.old.gap_end }
-        ensures { held self.new ≡ edited (held self.old) self.old.gap_start 0 ins.now }
-    {
-        let end = self.gap_start + ins.len();
-        self.bytes[self.gap_start..end].copy_from_slice(ins);
-        self.gap_start = end;
-    }
+    moved
 }

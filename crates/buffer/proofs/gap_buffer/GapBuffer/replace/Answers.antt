@@ -1,29 +1,27 @@
-use Rattle.std.proofs.Common.{ℕ, ◌+◌, ◌≤◌, List, length, ap, ◌∙◌, arith, rules}
-use Rattle.page.specs.Texts.{most_characters}
+use Rattle.std.proofs.Common.{◌≡◌, ◌+◌, ◌-◌, length, ap, ◌∙◌, arith, length-append, length-take, length-drop}
+use borrow.Rule.Slice.PartMut.{put_mid}
+use Rattle.std.proofs.lemmas.List.{with_items_is}
 use Rattle.page.specs.Texts.{edited}
-use Rattle.buffer.specs.Held.{held}
-use Rattle.buffer.proofs.Gaps.{length-held, widened}
+use Rattle.buffer.specs.Gaps.{around}
+use Rattle.buffer.proofs.Gaps.{length-around, written}
 use Rattle.buffer.proofs.gap_buffer.GapBuffer.replace.Goals as goal
-
-pub overflow_add-self : goal.overflow_add-self
-overflow_add-self c =
-    let n = length-held c.move_gap.new.self in omega (arith, ap length c.move_gap.ensures.same)
-
-pub invariant_of-self : goal.invariant_of-self
-invariant_of-self c =
-    let g = c.move_gap.new.self in
-    let n = length-held g in
-    let fits : g.gap_end + c.args.del ≤ most_characters = omega (arith, ap length c.move_gap.ensures.same) in search rules
-
-pub insert-requires : goal.insert-requires
-insert-requires c =
-    let n = length-held c.move_gap.new.self in omega (arith, ap length c.move_gap.ensures.same)
 
 pub returns : goal.returns
 returns c =
-    let g = c.move_gap.new.self in
+    let at = c.args.at in
     let del = c.args.del in
     let ins = c.args.ins.now in
-    c.insert.ensures ∙ widened g.bytes.items g.gap_start g.gap_end del ins (omega arith)
-    ∙ ap (λ (t : List ℕ). edited t g.gap_start del ins) c.move_gap.ensures.same
-    ∙ ap (λ (at : ℕ). edited (held c.args.self.now) at del ins) c.move_gap.ensures.moved
+    let g = c.self.inside in
+    let bytes = c.move_gap-end.new.bytes in
+    let end = c.move_gap-end.result in
+    let k = at + length ins - at in
+    let put = put_mid at k c.deref_mut.result.now c.copy_from_slice.new.self in
+    let is : put ≡ put_mid at k bytes.items ins =
+    ap (λ l. put_mid at k l c.copy_from_slice.new.self) c.deref_mut.ensures.value ∙ ap (put_mid at k bytes.items) c.copy_from_slice.ensures.after
+    in
+    let text = length-around g.bytes.items g.gap_start g.gap_end c.self.invariant.forward (omega arith) in
+    let same = ap length c.self.view_is in
+    let long : length put ≡ bytes.len = simp (length-append, length-take, length-drop) (omega arith) in
+    ap (λ l. around l (at + length ins) (end + del)) (with_items_is bytes put long ∙ is)
+    ∙ written bytes.items ins at end del k (omega arith) (omega arith) (omega arith) (omega arith) (omega arith)
+    ∙ ap (λ t. edited t at del ins) (c.move_gap-end.ensures.same ∙ c.self.view_is)

@@ -1,7 +1,0 @@
--- The text in a gap buffer.
-use Rattle.std.specs.Prelude.{ℕ, List, vec_items}
-use Rattle.buffer.specs.Gaps.{around}
-use Rattle.buffer.specs.declared.gap_buffer.GapBuffer.{GapBuffer}
-
-abbrev pub held : GapBuffer → List ℕ
-held g = around (vec_items g.bytes) g.gap_start g.gap_end
