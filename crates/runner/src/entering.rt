@@ -9,6 +9,7 @@ use listing::room::NoRoom;
 use listing::word::Word;
 use listing::writer::ListWriter;
 use script::fault::ScriptFault;
+use script::told::Told;
 
 // The entry of a line that is carried out.
 fn enter_reply(list: &mut ListWriter, line: usize, reply: Reply) -> Result<(), NoRoom>
@@ -46,17 +47,16 @@ fn enter_fault(list: &mut ListWriter, fault: ScriptFault) -> Result<(), NoRoom>
 {
     let line = Word::Number(fault.line as u64);
     let mark = Word::Letter('!');
-    match fault.fault.told().as_slice() {
-        [number, offset, code, depth] => list.entry(&[
+    match fault.fault.told() {
+        Told::Number(number) => list.entry(&[line, mark, Word::Number(u64::from(number))]),
+        Told::NoGlyph(u) => list.entry(&[
             line,
             mark,
-            Word::Number(*number),
-            Word::Number(*offset),
-            Word::Number(*code),
-            Word::Number(*depth),
+            Word::Number(u64::from(u.number())),
+            Word::Number(u.offset as u64),
+            Word::Number(u64::from(u.glyph.code)),
+            Word::Number(u64::from(u.glyph.depth)),
         ]),
-        [number, ..] => list.entry(&[line, mark, Word::Number(*number)]),
-        [] => list.entry(&[line, mark]),
     }
 }
 

@@ -1,6 +1,6 @@
 // What a script is refused for.
-ghost use Rattle.std.specs.Prelude.{◌≡◌, take};
-ghost use Rattle.script.specs.Faults.{command_told};
+ghost use Rattle.std.specs.Prelude.{◌≡◌};
+ghost use Rattle.script.specs.Faults.{command_told, told_words};
 ghost use Rattle.script.specs.declared.fault.CommandFault.TheVariants as cause;
 ghost use Rattle.sheet.specs.Faults.{replace_told};
 
@@ -27,6 +27,7 @@ pub struct ScriptFault {
     pub fault: CommandFault,
 }
 
+// By hand, since contracts name the variant and a derived `From` has none.
 impl From<NoCommand> for CommandFault {
     ghost from_gives = { λ e r. r ≡ cause.NoCommand e };
 
@@ -76,31 +77,31 @@ impl From<RowFault> for CommandFault {
 }
 
 impl CommandFault {
-    // The words to print.
+    // Its number, and what is told besides.
     pub fn told(self) -> Told
-        ensures { take result.len result.words ≡ command_told self }
+        ensures { told_words result ≡ command_told self }
     {
         match self {
-            CommandFault::NoCommand(e) => Told::number(e.number()),
-            CommandFault::NoMeasure(e) => Told::number(e.number()),
+            CommandFault::NoCommand(e) => Told::Number(e.number()),
+            CommandFault::NoMeasure(e) => Told::Number(e.number()),
             CommandFault::Replace(e) => replace_told(e),
-            CommandFault::Remeasure(RemeasureFault::Owed) => Told::number(1),
-            CommandFault::Remeasure(RemeasureFault::TooManyRows) => Told::number(5),
-            CommandFault::Settle(NothingOwed) => Told::number(7),
-            CommandFault::Row(RowFault::NoSuchRow) => Told::number(8),
-            CommandFault::Row(RowFault::ShortBuffer) => Told::number(9),
+            CommandFault::Remeasure(RemeasureFault::Owed) => Told::Number(1),
+            CommandFault::Remeasure(RemeasureFault::TooManyRows) => Told::Number(5),
+            CommandFault::Settle(NothingOwed) => Told::Number(7),
+            CommandFault::Row(RowFault::NoSuchRow) => Told::Number(8),
+            CommandFault::Row(RowFault::ShortBuffer) => Told::Number(9),
         }
     }
 }
 
 fn replace_told(e: ReplaceFault) -> Told
-    ensures { take result.len result.words ≡ replace_told e }
+    ensures { told_words result ≡ replace_told e }
 {
     match e {
-        ReplaceFault::Owed => Told::number(1),
-        ReplaceFault::OutOfText => Told::number(2),
-        ReplaceFault::TooLong => Told::number(3),
-        ReplaceFault::NoGlyph(u) => Told::uncovered(u),
-        ReplaceFault::TooManyRows => Told::number(5),
+        ReplaceFault::Owed => Told::Number(1),
+        ReplaceFault::OutOfText => Told::Number(2),
+        ReplaceFault::TooLong => Told::Number(3),
+        ReplaceFault::NoGlyph(u) => Told::NoGlyph(u),
+        ReplaceFault::TooManyRows => Told::Number(5),
     }
 }

@@ -10,6 +10,7 @@ use reflow::repaint::Repaint;
 use script::command::{Command, read_command};
 use script::fault::CommandFault;
 use script::lines::Lines;
+use script::told::Told;
 use sheet::sheet::{Sheet, Slip};
 use std::io;
 use std::io::Write;
@@ -82,12 +83,16 @@ fn print_settled(rt: &HostRuntime, number: u64, record: Repaint, rows: usize) ->
 }
 
 fn print_fault(rt: &HostRuntime, number: u64, fault: CommandFault) -> io::Result<()> {
-    print!(rt; "{number} !")?;
-    let told = fault.told();
-    for value in told.as_slice() {
-        print!(rt; " {value}")?;
+    match fault.told() {
+        Told::Number(told) => println!(rt; "{number} ! {told}"),
+        Told::NoGlyph(u) => {
+            let told = u.number();
+            let offset = u.offset;
+            let code = u.glyph.code;
+            let depth = u.glyph.depth;
+            println!(rt; "{number} ! {told} {offset} {code} {depth}")
+        }
     }
-    rt.println("")
 }
 
 pub fn print_calls<M: Measurer + Drop, P: Policy + Drop>(
