@@ -92,7 +92,8 @@ fn number_and_rest(line: &[u8]) -> Option<(usize, &[u8])>
     Some((magnitude(digits)? as usize, rest))
 }
 
-// Spells a written text out at the front of `spelling`, and answers how many characters it has.
+// Spells a written text out at the front of `spelling`, and answers how many characters it has. By
+// index, since no clause tells what a slice holds after writes through its `iter_mut` or `get_mut`.
 fn spell(written: &[u8], spelling: &mut [u8; MAX_CHARACTERS]) -> Option<usize>
     ensures value { option_map (λ n. take n spelling.new) result ≡ short (spelt written.now) }
     ensures bound { IfSome result (λ n. n ≤ most_characters) }

@@ -1,5 +1,7 @@
 // The lines of a script.
-ghost use Rattle.std.specs.Prelude.{◌≡◌, ◌≤◌, length, drop, IfSome};
+ghost use Rattle.std.specs.Prelude.{◌≡◌, ◌≤◌, length, drop, IfSome, ⊤};
+ghost use Rattle.std.specs.Iterator.{YieldsFirstRef, item_count, MakesProgress};
+ghost use Rattle.script.specs.Left.{lines_left};
 ghost use Rattle.script.specs.Lines.{lines};
 ghost use Rattle.script.specs.Theorems.{LineLaws};
 ghost use Rattle.std.specs.List.{slice_get};
@@ -21,9 +23,19 @@ impl<'s> Lines<'s> {
     {
         Lines { rest: script }
     }
+}
+
+impl<'s> Iterator for Lines<'s> {
+    type Item = &'s [u8];
+
+    ghost next_gives = { YieldsFirstRef lines_left };
+
+    ghost remaining = { item_count lines_left };
 
     // The next line, without its newline.
-    pub fn next(&mut self) -> Option<&'s [u8]>
+    fn next(&mut self) -> Option<&'s [u8]>
+        ensures steps { YieldsFirstRef lines_left self.old result self.new }
+        ensures goes { MakesProgress (λ _. ⊤) (item_count lines_left) self.old result self.new }
         ensures value { option_map (λ x. x.now) result ≡ slice_get (lines self.old.rest.now) 0 }
         ensures rest { lines self.new.rest.now ≡ drop 1 (lines self.old.rest.now) }
         ensures bound { IfSome result (λ line. length line.now ≤ length self.old.rest.now) }

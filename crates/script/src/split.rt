@@ -6,10 +6,6 @@ ghost use Rattle.script.specs.Splits.{split_once, parts};
 pub fn split_once(bytes: &[u8], mark: u8) -> Option<(&[u8], &[u8])>
     ensures { parts result ≡ split_once mark bytes.now }
 {
-    for (i, b) in bytes.iter().enumerate() {
-        if *b == mark {
-            return Some((&bytes[0..i], &bytes[i + 1..]));
-        }
-    }
-    None
+    let place = bytes.iter().position(|b| *b == mark)?;
+    Some((&bytes[..place], &bytes[place + 1..]))
 }
