@@ -1,8 +1,8 @@
 -- The rows behind the place where the new rows meet the old ones are shown as before.
-use Rattle.std.proofs.Common.{◌≡◌, ℕ, suc, ◌+◌, ◌-◌, ◌<◌, ◌≤◌, Bool, true, false, not, eqb, leb, List, [], ◌∷◌, map, length, get_or, drop, sym, refl, ap, ◌∙◌, inl, inr, one-add, arith}
-use Rattle.std.specs.List.{prefix_len}
+use Rattle.std.proofs.Common.{◌≡◌, ℕ, suc, ◌+◌, ◌-◌, ◌<◌, ◌≤◌, true, not, eqb, leb, List, [], ◌∷◌, map, length, get_or, drop, sym, refl, ap, ◌∙◌, inl, inr, arith}
 use Rattle.std.proofs.lemmas.List.{length-drop, length-map, drop-drop, drop-map, drop_all}
-use Rattle.std.proofs.lemmas.Bool.{and_parts, or_cases, not-false, eqb-true, leb-true, cases_lt, cond_both}
+use Rattle.std.proofs.lemmas.List.Sums.{prefix_len_stops}
+use Rattle.std.proofs.lemmas.Bool.{and_parts, or_cases, not-false, eqb-true, leb-true, cases_lt}
 use Rattle.metrics.specs.Meaning.{Meaning}
 use Rattle.page.specs.Policies.{Rules}
 use Rattle.page.specs.declared.ending.Ending.TheVariants.{End}
@@ -19,14 +19,6 @@ use Rattle.reflow.specs.Screens.{Shown, shown, painted}
 use Rattle.reflow.specs.Theorems.{EditLaws}
 use Rattle.reflow.proofs.RowLists.{rows_later}
 use Rattle.reflow.proofs.ScreenParts.{part_behind, shown_alike}
-
--- the element behind the longest front that passes does not pass
-leading_stops : {X : Type 0} (p : X → Bool) (xs : List X) (d : X) → prefix_len p xs < length xs → p (get_or xs (prefix_len p xs) d) ≡ false
-leading_stops p [] d h = absurd (omega arith)
-leading_stops {X} p (x ∷ xs) d h =
-    cond_both (p x) (1 + prefix_len p xs) 0 (λ (n : ℕ). n < length (x ∷ xs) → p (get_or (x ∷ xs) n d) ≡ false)
-    (λ _ l. rw (one-add (prefix_len p xs)) (leading_stops p xs d (omega arith)))
-    (λ e _. e) h
 
 -- the old row that starts at a place where one does
 starts_where : (rs : List Row) (s : ℕ) → starts_at rs s ≡ true → (j : ℕ) × (j < length rs) × ((d : Row) → (get_or rs j d).start ≡ s)
@@ -72,7 +64,7 @@ module _ (m : Meaning) (P : Rules) (w : ℕ) (t ins : List ℕ) (e : Edit) (with
   met d h =
       let k = meeting e old new in
       let s' = (get_or new k d).start in
-      let y = not-false (meets e old (get_or new k d)) (leading_stops (λ (r : Row). not (meets e old r)) new d h) in
+      let y = not-false (meets e old (get_or new k d)) (prefix_len_stops (λ (r : Row). not (meets e old r)) new d h) in
       let c = and_parts (leb (e.at + e.ins) s') (starts_at old (s' - e.ins + e.del)) y in
       let g = leb-true (e.at + e.ins) s' c.0 in
       let o = starts_where old (s' - e.ins + e.del) c.1 in

@@ -1,5 +1,5 @@
 -- The leading rows that an edit keeps are shown as before.
-use Rattle.std.proofs.Common.{◌≡◌, ℕ, ◌+◌, ◌≤◌, true, cond, ◌&&◌, eqb, leb, List, [], ◌∷◌, length, take, sym, refl, ap, ◌∙◌, one-add, arith}
+use Rattle.std.proofs.Common.{◌≡◌, ℕ, ◌+◌, ◌≤◌, true, cond, ◌&&◌, eqb, leb, List, [], ◌∷◌, length, take, sym, refl, ap, ◌∙◌, one-add}
 use Rattle.std.proofs.lemmas.Bool.{and_parts, eqb-true, leb-true, cond_both}
 use Rattle.metrics.specs.Meaning.{Meaning}
 use Rattle.page.specs.Endings.{letter_of}
@@ -42,13 +42,6 @@ kept_parts at r r' k =
       ending = same_ending r.ending r'.ending (eqb-true (letter_of r.ending) (letter_of r'.ending) c.0);
       before = leb-true r.end at c.1;
     }
-
-pub front_within : (at : ℕ) (old new : List Row) → (front at old new ≤ length old) × (front at old new ≤ length new)
-front_within at [] new = (omega arith, omega arith)
-front_within at (r ∷ rs) [] = (omega arith, omega arith)
-front_within at (r ∷ rs) (r' ∷ rs') =
-    let h = front_within at rs rs' in
-    cond_both (kept at r r') (1 + front at rs rs') 0 (λ (n : ℕ). (n ≤ length (r ∷ rs)) × (n ≤ length (r' ∷ rs'))) (λ e. (omega arith, omega arith)) (λ e. (omega arith, omega arith))
 
 module _ (m : Meaning) (t ins : List ℕ) (at del : ℕ) (within : at + del ≤ length t) where
   kept_shown : (r r' : Row) → kept at r r' ≡ true → shown m t r ≡ shown m (edited t at del ins) r'

@@ -1,6 +1,7 @@
 -- A screen that follows the record of an edit shows the new rows.
 use Rattle.std.proofs.Common.{◌≡◌, ℕ, ◌+◌, ◌-◌, ◌≤◌, List, ◌++◌, length, take, drop, sym, ap, ◌∙◌, arith}
 use Rattle.std.proofs.lemmas.List.{length-map, take-append-drop, drop-drop}
+use Rattle.std.proofs.lemmas.List.Sums.{common_prefix_len-le}
 use Rattle.metrics.specs.Meaning.{Meaning}
 use Rattle.page.specs.Policies.{Rules}
 use Rattle.page.specs.declared.row.Row.{Row}
@@ -8,10 +9,10 @@ use Rattle.layout.specs.FirstFit.{RowsFrom}
 use Rattle.page.specs.Texts.{edited}
 use Rattle.reflow.specs.Edits.{rows_of}
 use Rattle.reflow.specs.declared.edit.Edit.{Edit}
-use Rattle.reflow.specs.Repaints.{meeting, front, back, repaint_of}
+use Rattle.reflow.specs.Repaints.{meeting, kept, front, back, repaint_of}
 use Rattle.reflow.specs.Screens.{painted, followed}
 use Rattle.reflow.specs.Theorems.{AllRows, EditLaws, EditsLayAnew, RecordsRepaint}
-use Rattle.reflow.proofs.ScreenFront.{front_within, front_shown}
+use Rattle.reflow.proofs.ScreenFront.{front_shown}
 use Rattle.reflow.proofs.ScreenBack.{back_shown}
 
 -- two lists alike in their first f and last b elements: the second is the first with its own middle
@@ -35,7 +36,7 @@ module _ (m : Meaning) (P : Rules) (w : ℕ) where
   repaints t ins e old new within long was are laws =
       let f = front e.at old new in
       let b = back e old new in
-      let h = front_within e.at old new in
+      let h = common_prefix_len-le (kept e.at) old new in
       let ho : f + b ≤ length old = omega arith in
       let hn : f + b ≤ length new = omega arith in
       let hb : b ≤ length new - meeting e old new = omega arith in

@@ -1,6 +1,6 @@
 -- What is painted again after an edit.
-use Rattle.std.specs.Prelude.{ℕ, ◌+◌, ◌-◌, min, Bool, true, false, cond, not, ◌&&◌, ◌||◌, leb, List, [], ◌∷◌, length, ◌==◌, nat_le}
-use Rattle.std.specs.List.{prefix_len}
+use Rattle.std.specs.Prelude.{ℕ, ◌+◌, ◌-◌, min, Bool, true, false, not, ◌&&◌, ◌||◌, leb, List, [], ◌∷◌, length, ◌==◌, nat_le}
+use Rattle.std.specs.List.{prefix_len, common_prefix_len}
 use Rattle.page.specs.Endings.{letter_of}
 use Rattle.page.specs.declared.row.Row.{Row}
 use Rattle.reflow.specs.declared.edit.Edit.{Edit}
@@ -29,9 +29,7 @@ kept at r r' = r.start == r'.start && (r.end == r'.end && (letter_of r.ending ==
 
 -- the number of leading rows that are kept
 abbrev pub front : ℕ → List Row → List Row → ℕ
-front at [] new = 0
-front at (r ∷ rs) [] = 0
-front at (r ∷ rs) (r' ∷ rs') = cond (kept at r r') (1 + front at rs rs') 0
+front at old new = common_prefix_len (kept at) old new
 
 -- the number of rows at the end that need no paint
 abbrev pub back : Edit → List Row → List Row → ℕ

@@ -12,12 +12,7 @@ use page::row::Row;
 pub(crate) fn first_reaching(old: &[Row], edit: Edit) -> usize
     ensures { result ≡ first_reaching edit old.now }
 {
-    for (i, row) in old.iter().enumerate() {
-        if row.reach > edit.at {
-            return i;
-        }
-    }
-    old.len()
+    old.iter().take_while(|row| row.reach <= edit.at).count()
 }
 
 // Puts the rows behind those in the list.

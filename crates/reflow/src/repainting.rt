@@ -10,7 +10,7 @@ use page::row::Row;
 fn kept(at: usize, row: &Row, other: &Row) -> bool
     ensures { result ≡ kept at row.now other.now }
 {
-    row.start == other.start && row.end == other.end && row.ending == other.ending && row.end <= at
+    (row.start, row.end, row.ending) == (other.start, other.end, other.ending) && row.end <= at
 }
 
 // The number of leading rows that are shown as before.
@@ -19,14 +19,10 @@ fn front(at: usize, old: &[Row], new: &[Row]) -> usize
     ensures among_old { result ≤ length old.now }
     ensures among_new { result ≤ length new.now }
 {
-    let mut n = 0;
-    'rows: while n < old.len() && n < new.len() {
-        if !kept(at, &old[n], &new[n]) {
-            return n;
-        }
-        n += 1;
-    }
-    n
+    old.iter()
+        .zip(new)
+        .take_while(|(row, other)| kept(at, row, other))
+        .count()
 }
 
 // The record of an edit after which the new row `met` is the first that meets an old one.

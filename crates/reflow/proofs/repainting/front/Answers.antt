@@ -1,27 +1,19 @@
-use Rattle.std.proofs.Common.{sym, arith}
-use Rattle.reflow.proofs.Fronts.{front_yes, front_no, front_past_old, front_past_new}
+use Rattle.std.proofs.Common.{rules, tests, Bool, zip, ◌∙◌}
+use Rattle.std.proofs.lemmas.Iterator.{YieldsList-from_slice, YieldsList-from_zip}
+use Rattle.std.proofs.lemmas.Iterator.Consumers.{YieldsList-at, count_from_yields_List}
+use Rattle.std.proofs.lemmas.Iterator.Search.{YieldsList-from_take_while}
+use Rattle.std.proofs.lemmas.List.Folds.{length-prefix_len}
+use Rattle.page.specs.declared.row.Row.{Row}
+use Rattle.reflow.specs.Repaints.{kept}
+use Rattle.reflow.proofs.Fronts.{kept_pairs}
 use Rattle.reflow.proofs.repainting.front.Goals as goal
 
-pub returns-then-not-kept : goal.returns-then-not-kept
-returns-then-not-kept c =
-    let inv = c.rows.invariant in
-    let e = front_no c.args.at c.rows.n c.args.old.now c.args.new.now _ c.rows-test.true c.if-n-new.true (sym c.if-not-kept.ensures) in
-    record { value = omega arith; among_old = inv.1; among_new = inv.2 }
-
-pub rows-preserved : goal.rows-preserved
-rows-preserved c =
-    let inv = c.rows.invariant in
-    let e = front_yes c.args.at c.rows.n c.args.old.now c.args.new.now _ c.rows-test.true c.if-n-new.true (sym c.if-not-kept.ensures) in
-    (omega arith, omega arith, omega arith)
-
-pub returns-else-n-new : goal.returns-else-n-new
-returns-else-n-new c =
-    let inv = c.rows.invariant in
-    let e = front_past_new c.args.at c.rows.n c.args.old.now c.args.new.now c.if-n-new.false in
-    record { value = omega arith; among_old = inv.1; among_new = inv.2 }
-
-pub returns-after-rows : goal.returns-after-rows
-returns-after-rows c =
-    let inv = c.rows.invariant in
-    let e = front_past_old c.args.at c.rows.n c.args.old.now c.args.new.now c.rows-test.false in
-    record { value = omega arith; among_old = inv.1; among_new = inv.2 }
+pub returns-clause-value : goal.returns-clause-value
+returns-clause-value c =
+    let old = c.args.old.now in
+    let new = c.args.new.now in
+    let same : Row × Row → Bool = λ x. kept c.args.at x.0 x.1 in
+    let pairs = YieldsList-at c.take_while.ensures.source (YieldsList-from_zip (YieldsList-from_slice old (cc)) (YieldsList-from_slice new (cc))) in
+    count_from_yields_List c.take_while.result _ c.count.ensures.ran (YieldsList-from_take_while _ same pairs c.take_while.ensures.closure c.take_while.ensures.done (λ x b q k. search (rules, tests)))
+    ∙ length-prefix_len same (zip old new)
+    ∙ kept_pairs c.args.at old new
