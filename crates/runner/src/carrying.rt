@@ -23,13 +23,7 @@ fn settle<M: Measurer, P: Policy>(
 ) -> Result<Reply, CommandFault>
     ensures { (k : Making) (h : History) (n : ℕ) → Follows k h (state M.meaning M.sound P.rules sheet.old) → Took k h (state M.meaning M.sound P.rules sheet.new) (settle_step (clean_after k h)) n (answer_words n result) }
 {
-    let mut record = Repaint {
-        whole: false,
-        from: 0,
-        removed: 0,
-        put: 0,
-        broken: 0,
-    };
+    let mut record = Repaint::default();
     sheet.settle(slip, &mut record)?;
     Ok(Reply::Painted {
         record,

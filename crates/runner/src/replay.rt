@@ -21,6 +21,7 @@ pub enum ReplayFault {
     Full(ListFull),
 }
 
+// By hand: a derived `From` would not say which variant `?` makes, and the contract of `replay` does.
 impl From<AllocError> for ReplayFault {
     ghost from_gives = { λ _ r. r ≡ cause.Memory };
 

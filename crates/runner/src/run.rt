@@ -33,13 +33,10 @@ fn run_line<M: Measurer, P: Policy>(
 ) -> Result<Reply, ScriptFault>
     ensures { (k : Making) (h : History) → Follows k h (state M.meaning M.sound P.rules sheet.old) → Took k h (state M.meaning M.sound P.rules sheet.new) (line_step k (clean_after k h) line.now) number (outcome_words number result) }
 {
-    match carry_out(line, sheet, text, row) {
-        Ok(reply) => Ok(reply),
-        Err(fault) => Err(ScriptFault {
-            line: number,
-            fault,
-        }),
-    }
+    carry_out(line, sheet, text, row).map_err(|fault| ScriptFault {
+        line: number,
+        fault,
+    })
 }
 
 // Runs a script on a sheet, and writes its list. Where the list has no room for an entry, the run
@@ -58,10 +55,7 @@ pub fn run<M: Measurer, P: Policy>(
             line: 0,
             fault: CommandFault::NoCommand(NoCommand),
         };
-        return match enter(list, 0, Err(fault)) {
-            Ok(()) => Ok(()),
-            Err(_) => Err(ListFull { line: 0 }),
-        };
+        return enter(list, 0, Err(fault)).map_err(|_| ListFull { line: 0 });
     }
     let mut text = [0; MAX_CHARACTERS];
     let mut row = [0; MAX_CHARACTERS];
@@ -70,9 +64,7 @@ pub fn run<M: Measurer, P: Policy>(
     'lines: while let Some(line) = lines.next() {
         number += 1;
         let reply = run_line(number, line, sheet, &mut text, &mut row);
-        if enter(list, number, reply).is_err() {
-            return Err(ListFull { line: number });
-        }
+        enter(list, number, reply).map_err(|_| ListFull { line: number })?;
     }
     Ok(())
 }

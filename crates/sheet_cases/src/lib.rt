@@ -11,16 +11,6 @@ mod tests;
 
 // What is owed, once the slip for it is spent.
 pub fn settled<M: Measurer, P: Policy>(sheet: &mut Sheet<M, P>, slip: Slip) -> Option<Repaint> {
-    let mut record = Repaint {
-        whole: false,
-        from: 0,
-        removed: 0,
-        put: 0,
-        broken: 0,
-    };
-    let answer = sheet.settle(slip, &mut record);
-    match answer {
-        Ok(()) => Some(record),
-        Err(_) => None,
-    }
+    let mut record = Repaint::default();
+    sheet.settle(slip, &mut record).ok().map(|()| record)
 }
