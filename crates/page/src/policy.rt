@@ -1,6 +1,8 @@
 // Break policies: between which neighbours a row may end, and which characters hang.
 ghost use Rattle.std.specs.Prelude.{◌≡◌};
-ghost use Rattle.page.specs.Policies.{Rules, spaces, anywhere};
+ghost use Rattle.page.specs.Policies.{Rules, spaces, anywhere, breaks_rules, NamesBreaks};
+
+use std::str::FromStr;
 
 pub trait Policy {
     ghost rules: { Self → Rules };
@@ -45,5 +47,48 @@ impl Policy for Anywhere {
     fn hangs(&self, c: u8) -> bool {
         let _ = c;
         false
+    }
+}
+
+// Either policy, chosen while a program runs.
+#[derive(Clone, Copy, Debug, PartialEq, Eq)]
+pub enum Breaks {
+    Spaces,
+    Anywhere,
+}
+
+impl Policy for Breaks {
+    ghost rules = { breaks_rules };
+
+    fn may_break(&self, before: u8, after: u8) -> bool {
+        match self {
+            Breaks::Spaces => Spaces.may_break(before, after),
+            Breaks::Anywhere => Anywhere.may_break(before, after),
+        }
+    }
+
+    fn hangs(&self, c: u8) -> bool {
+        match self {
+            Breaks::Spaces => Spaces.hangs(c),
+            Breaks::Anywhere => Anywhere.hangs(c),
+        }
+    }
+}
+
+// A word names no policy.
+#[derive(Clone, Copy, Debug, PartialEq, Eq)]
+pub struct NoSuchPolicy;
+
+impl FromStr for Breaks {
+    type Err = NoSuchPolicy;
+
+    ghost from_str_gives = { NamesBreaks };
+
+    fn from_str(word: &str) -> Result<Breaks, NoSuchPolicy> {
+        match word {
+            "spaces" => Ok(Breaks::Spaces),
+            "anywhere" => Ok(Breaks::Anywhere),
+            _ => Err(NoSuchPolicy),
+        }
     }
 }
