@@ -2,7 +2,6 @@
 use Rattle.std.specs.Prelude.{vec_items}
 use Rattle.metrics.specs.Meaning.{Meaning}
 use Rattle.page.specs.Policies.{Rules}
-use Rattle.buffer.specs.Held.{held}
 use Rattle.sheet.specs.Histories.{State}
 use Rattle.sheet.specs.declared.sheet.Sheet.{Sheet}
 
@@ -11,7 +10,7 @@ state meaning rules s = record {
   meaning = meaning s.setter.measurer;
   rules = rules s.setter.policy;
   measure = s.setter.measure.units;
-  text = held s.text;
+  text = s.text;
   rows = vec_items s.rows.rows;
   owed = s.owed;
 }

@@ -1,6 +1,5 @@
 // Repainting, settling, and what a sheet shows.
 ghost use Rattle.std.specs.Prelude.{◌≡◌, length, vec_len, OnErr};
-ghost use Rattle.buffer.specs.Held.{held};
 ghost use Rattle.sheet.specs.Clean.Answer.{accepted};
 ghost use Rattle.sheet.specs.Clean.Call.{refresh, settle, row};
 ghost use Rattle.sheet.specs.Faults.{settle_answer, row_answer};
@@ -76,7 +75,7 @@ impl<M: Measurer, P: Policy> Sheet<M, P> {
 
     // How many characters there are.
     pub fn char_count(&self) -> usize
-        ensures { result ≡ length (held self.now.text) }
+        ensures { result ≡ length self.now.text }
     {
         self.text.len()
     }

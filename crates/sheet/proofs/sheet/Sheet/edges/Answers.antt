@@ -4,7 +4,6 @@ use Rattle.std.proofs.lemmas.Option.{slice_get-get_or, slice_get_past}
 use Rattle.std.specs.List.{slice_get}
 use Rattle.page.specs.Texts.{part}
 use Rattle.page.specs.declared.row.Row.{Row}
-use Rattle.buffer.specs.Held.{held}
 use Rattle.reflow.proofs.Meetings.{zero_row}
 use Rattle.layout.specs.Covers.{AllCovered}
 use Rattle.layout.specs.Widths.{edges as edges_of}
@@ -49,7 +48,7 @@ returns g c =
     let rows = c.as_slice-rows.result.now in
     let i = c.args.number in
     let r = get_or rows i zero_row in
-    let t = held c.args.self.now.text in
+    let t = c.args.self.now.text in
     let m = g.M.Measurer.meaning c.args.self.now.setter.measurer in
     let b = c.args.edges.now in
     record {

@@ -3,7 +3,6 @@ use Rattle.std.proofs.Common.{◌≡◌, ℕ, ◌+◌, ◌-◌, ◌%◌, ◌^◌
 use Rattle.layout.specs.Styles.{Style}
 use Rattle.layout.specs.Covers.{Covered}
 use Rattle.layout.specs.declared.row_list.RowList.{RowList}
-use Rattle.buffer.specs.Held.{held}
 use Rattle.reflow.specs.Edits.{rows_of}
 use Rattle.reflow.specs.declared.repaint.Repaint.{Repaint}
 use Rattle.sheet.proofs.Remeasuring.{laid_all, all_few, broken_all, grown, laid_right, refused_layout, remeasured_call, refused_owed, refused_many}
@@ -24,7 +23,7 @@ returns-then-is_err g c =
     let m = g.M.Measurer.meaning c.args.self.now.setter.measurer in
     let P = g.P.Policy.rules c.args.self.now.setter.policy in
     let w = c.args.measure.units in
-    let t = held c.args.self.now.text in
+    let t = c.args.self.now.text in
     record {
       follows = λ k h f.
           let v : Covered m t = subst₂ Covered (sym f.meaning) (sym f.text) f.covered in
@@ -41,7 +40,7 @@ returns g c =
     let m = g.M.Measurer.meaning c.args.self.now.setter.measurer in
     let P = g.P.Policy.rules c.args.self.now.setter.policy in
     let w = c.args.measure.units in
-    let t = held c.args.self.now.text in
+    let t = c.args.self.now.text in
     let fits : c.args.self.now.setter.tally < 2 ^ 64 = omega arith in
     let new-len : c.len-2.result ≡ length (vec_items c.swap.new.x.rows) = c.len-2.ensures ∙ c.swap.new.x.rows.ok.0 in
     let old-len : c.len.result ≡ length (vec_items c.args.self.now.rows.rows) = c.len.ensures ∙ c.swap.new.y.rows.ok.0 ∙ ap (λ (l : RowList). length (vec_items l.rows)) c.swap.ensures.y_after in

@@ -7,7 +7,6 @@ use Rattle.layout.proofs.Settling.{told_some, told_none}
 use Rattle.layout.specs.Styles.{Style}
 use Rattle.layout.specs.Covers.{first_uncovered}
 use Rattle.layout.specs.Layouts.{most_rows}
-use Rattle.buffer.specs.Held.{held}
 use Rattle.layout.specs.declared.row_list.RowList.{RowList}
 use Rattle.page.specs.declared.row.Row.{Row}
 use Rattle.reflow.specs.Edits.{rows_of}
@@ -31,7 +30,7 @@ pub returns-then-at-len : goal.returns-then-at-len
 returns-then-at-len g c =
     let none = none_owed c.args.self.now.owed (sym c.is_some.ensures ∙ c.if-is_some.false) in
     let n = c.len-len.ensures.value in
-    let out : c.args.at ≤ length (held c.args.self.now.text) → c.args.del ≤ length (held c.args.self.now.text) - c.args.at → ⊥ = elim c.then-at-len.branch [
+    let out : c.args.at ≤ length c.args.self.now.text → c.args.del ≤ length c.args.self.now.text - c.args.at → ⊥ = elim c.then-at-len.branch [
       | then-at-len-via-then-at-len w ↦ λ a b. omega (arith, w.if-at-len.true)
       | then-at-len-via-else-at-len+then-del-len w ↦ λ a b. omega (arith, w.if-del-len.true)
     ] in
@@ -74,7 +73,7 @@ returns-in_err-record g c =
     let none = none_owed c.args.self.now.owed (sym c.is_some.ensures ∙ c.if-is_some.false) in
     let n = c.len-len.ensures.value in
     let few = c.len-len.ensures.few in
-    let t = held c.args.self.now.text in
+    let t = c.args.self.now.text in
     let ins = c.args.ins.now in
     let checked = c.in_ok-check_cover.ensures in
     let told = c.in_err-record.ensures in
@@ -107,7 +106,7 @@ returns g c =
     let none = none_owed c.args.self.now.owed (sym c.is_some.ensures ∙ c.if-is_some.false) in
     let n = c.len-len.ensures.value in
     let few = c.len-len.ensures.few in
-    let t = held c.args.self.now.text in
+    let t = c.args.self.now.text in
     let ins = c.args.ins.now in
     let checked = c.in_ok-check_cover.ensures in
     let told = c.in_ok-record.ensures in

@@ -4,7 +4,6 @@ use Rattle.std.proofs.lemmas.Option.{slice_get-get_or, slice_get_past}
 use Rattle.std.specs.List.{slice_get}
 use Rattle.page.specs.Texts.{part}
 use Rattle.page.specs.declared.row.Row.{Row}
-use Rattle.buffer.specs.Held.{held}
 use Rattle.reflow.proofs.Meetings.{zero_row}
 use Rattle.sheet.proofs.Showing.{inside, no_such_row, short_buffer, shown_row}
 use Rattle.sheet.proofs.sheet.Sheet.row.Goals as goal
@@ -20,7 +19,7 @@ returns-then-end-start g c =
     let rows = c.as_slice-rows.result.now in
     let i = c.args.number in
     let r = get_or rows i zero_row in
-    let t = held c.args.self.now.text in
+    let t = c.args.self.now.text in
     record {
       follows = λ k h f.
           let there = ap (λ (rs : List Row). slice_get rs i) (sym c.as_slice-rows.ensures) ∙ slice_get-get_or rows i zero_row c.if-number-rows.false in
@@ -36,7 +35,7 @@ returns g c =
     let rows = c.as_slice-rows.result.now in
     let i = c.args.number in
     let r = get_or rows i zero_row in
-    let t = held c.args.self.now.text in
+    let t = c.args.self.now.text in
     let b = c.args.buffer.now in
     record {
       follows = λ k h f.
