@@ -1,14 +1,15 @@
 // Scripts run from the start, each on a sheet of its own.
 ghost use Rattle.std.specs.Prelude.{◌≡◌};
+ghost use Rattle.layout.specs.Styles.{style};
 ghost use Rattle.listing.specs.Writers.{written, room};
 ghost use Rattle.runner.specs.Replays.{Replayed};
 ghost use Rattle.runner.specs.declared.replay.ReplayFault.TheVariants as cause;
 
 use crate::fault::ListFull;
 use crate::run::run;
+use layout::setter::Setter;
 use listing::writer::ListWriter;
 use metrics::measurer::Measurer;
-use page::measure::Measure;
 use page::policy::Policy;
 use sheet::sheet::Sheet;
 use std::alloc::{AllocError, Global};
@@ -41,17 +42,15 @@ impl From<ListFull> for ReplayFault {
 // Runs a script on a new sheet, and writes its list.
 pub fn replay<M: Measurer + Drop, P: Policy + Drop>(
     heap: Global,
-    measurer: M,
-    policy: P,
-    measure: Measure,
+    setter: Setter<M, P>,
     script: &[u8],
     list: &mut ListWriter,
 ) -> Result<(), ReplayFault>
     ensures lender { list.new.buffer.ghost_name ≡ list.old.buffer.ghost_name }
     ensures room { room list.new ≡ room list.old }
-    ensures ran { M.sound measurer → Replayed (record { meaning = M.meaning measurer; rules = P.rules policy; measure = measure.units }) (room list.old) (written list.old) script.now result (written list.new) }
+    ensures ran { Replayed (style M.meaning P.rules setter) (room list.old) (written list.old) script.now result (written list.new) }
 {
-    let mut sheet = Sheet::new(heap, measurer, policy, measure)?;
+    let mut sheet = Sheet::new(heap, setter)?;
     run(script, &mut sheet, list)?;
     Ok(())
 }

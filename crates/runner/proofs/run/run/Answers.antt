@@ -18,8 +18,8 @@ returns-then-script-gt-MAX_SCRIPT-clause-ran g c k h f = search (rules, tests)
 
 pub returns-in_err-map_err : goal.returns-in_err-map_err
 returns-in_err-map_err g c =
-    let s = state g.M.Measurer.meaning g.M.Measurer.sound g.P.Policy.rules c.lines.sheet in
-    let s' = state g.M.Measurer.meaning g.M.Measurer.sound g.P.Policy.rules c.run_line-reply.new.sheet in
+    let s = state g.M.Measurer.meaning g.P.Policy.rules c.lines.sheet in
+    let s' = state g.M.Measurer.meaning g.P.Policy.rules c.run_line-reply.new.sheet in
     let R = room c.args.list.now in
     let n = c.lines.number + 1 in
     let ws = outcome_words n c.run_line-reply.result in
@@ -40,8 +40,8 @@ returns-in_err-map_err g c =
 
 pub lines-preserved : goal.lines-preserved
 lines-preserved g c =
-    let s = state g.M.Measurer.meaning g.M.Measurer.sound g.P.Policy.rules c.lines.sheet in
-    let s' = state g.M.Measurer.meaning g.M.Measurer.sound g.P.Policy.rules c.run_line-reply.new.sheet in
+    let s = state g.M.Measurer.meaning g.P.Policy.rules c.lines.sheet in
+    let s' = state g.M.Measurer.meaning g.P.Policy.rules c.run_line-reply.new.sheet in
     let R = room c.args.list.now in
     let n = c.lines.number + 1 in
     let ls = lines c.lines.lines.rest.now in
@@ -63,7 +63,7 @@ lines-preserved g c =
 
 pub returns : goal.returns
 returns g c =
-    let s = state g.M.Measurer.meaning g.M.Measurer.sound g.P.Policy.rules c.lines.sheet in
+    let s = state g.M.Measurer.meaning g.P.Policy.rules c.lines.sheet in
     let R = room c.args.list.now in
     record {
       lender = c.lines.invariant.1;

@@ -24,7 +24,7 @@ returns-in_err-settle g c =
 pub returns : goal.returns
 returns g c k h f sees =
     let end : c.char_count-at.result ≡ length (clean_after k h).text = c.char_count-at.ensures ∙ ap length f.text in
-    let s₂ = state g.M.Measurer.meaning g.M.Measurer.sound g.P.Policy.rules c.settle.new.self in
+    let s₂ = state g.M.Measurer.meaning g.P.Policy.rules c.settle.new.self in
     let told = c.in_ok-follow.ensures in
     let f₁ = c.in_ok-slip.ensures.follows k h f in
     let f₂ = c.in_ok-settle.ensures.follows k _ f₁ in
