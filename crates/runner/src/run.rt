@@ -59,10 +59,8 @@ pub fn run<M: Measurer, P: Policy>(
     }
     let mut text = [0; MAX_CHARACTERS];
     let mut row = [0; MAX_CHARACTERS];
-    let mut lines = Lines::new(script);
-    let mut number = 0;
-    'lines: while let Some(line) = lines.next() {
-        number += 1;
+    'lines: for (before, line) in Lines::new(script).enumerate() {
+        let number = before + 1;
         let reply = run_line(number, line, sheet, &mut text, &mut row);
         enter(list, number, reply).map_err(|_| ListFull { line: number })?;
     }

@@ -12,11 +12,8 @@ use Rattle.runner.proofs.run.run.Given as goal
 abbrev pub invariant-lines : goal.invariant-lines
 invariant-lines g l =
     ((k : Making) (h : History) → Follows k h (state g.M.Measurer.meaning g.P.Policy.rules l.initial.sheet)
-    → Going k h (state g.M.Measurer.meaning g.P.Policy.rules l.sheet) (room l.initial.list) (written l.list) (l.number + 1) (lines l.lines.rest.now)
-    (run_lines k (room l.initial.list) (written l.initial.list) (clean_after k h) 1 (lines l.initial.lines.rest.now)))
+    → Going k h (state g.M.Measurer.meaning g.P.Policy.rules l.sheet) (room l.initial.list) (written l.list) (l.before-iterator.count + 1) (lines l.before-iterator.iter.rest.now)
+    (run_lines k (room l.initial.list) (written l.initial.list) (clean_after k h) 1 (lines l.initial.before-iterator.iter.rest.now)))
     × (l.list.buffer.ghost_name ≡ l.initial.list.buffer.ghost_name)
     × (room l.list ≡ room l.initial.list)
-    × (l.number + length (lines l.lines.rest.now) ≤ most_bytes)
-
-abbrev pub decreases-lines : goal.decreases-lines
-decreases-lines g l = length (lines l.lines.rest.now)
+    × (l.before-iterator.count + length (lines l.before-iterator.iter.rest.now) ≤ most_bytes)
