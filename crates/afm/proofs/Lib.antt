@@ -4,3 +4,4 @@ mod Numerals
 mod Runs
 mod Scans
 mod Turns
+mod Spelling

@@ -1,7 +1,6 @@
 -- Parts of a file: a text, and the place where it begins.
-use Rattle.std.specs.Prelude.{ℕ, zero, suc, ◌+◌, Bool, List, take, drop}
+use Rattle.std.specs.Prelude.{ℕ, zero, suc, ◌+◌, Bool, true, ◌&&◌, List, [], ◌∷◌, length, take, drop, ◌==◌, slice_index}
 use Rattle.std.specs.List.{prefix_len}
-use Rattle.std.specs.Str.{bytes_eq}
 use Rattle.afm.specs.Kinds.{holds}
 use Rattle.afm.specs.declared.kind.Kind.{Kind}
 use Rattle.afm.specs.declared.kind.Kind.TheVariants.{Blank, Dark}
@@ -47,6 +46,11 @@ past_words (suc n) p = past_word (past_words n p)
 abbrev pub nth_word : ℕ → Part → Part
 nth_word n p = first_word (past_words n p)
 
+-- the bytes of a keyword stand in a text from place i on
+abbrev pub stands_at : ℕ → List ℕ → List ℕ → Bool
+stands_at i text [] = true
+stands_at i text (b ∷ keyword) = slice_index text i == b && stands_at (suc i) text keyword
+
 -- byte for byte
 unfoldable pub is : List ℕ → List ℕ → Bool
-is text keyword = bytes_eq text keyword
+is text keyword = length text == length keyword && stands_at 0 text keyword

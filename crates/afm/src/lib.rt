@@ -5,7 +5,6 @@ mod entry_line;
 pub mod fault;
 mod field;
 pub mod font;
-mod keyword;
 mod kind;
 mod number;
 mod part;
