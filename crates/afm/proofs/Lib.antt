@@ -1,5 +1,4 @@
 mod Acts
-mod Firsts
 mod Numerals
 mod Runs
 mod Scans

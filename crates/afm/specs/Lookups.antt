@@ -1,14 +1,10 @@
 -- Names, codes and pairs among the entries taken so far.
-use Rattle.std.specs.Prelude.{ℕ, Bool, false, cond, ◌&&◌, List, [], ◌∷◌, take, drop, is_some, Some, None, Option, ◌==◌}
+use Rattle.std.specs.Prelude.{ℕ, Bool, false, ◌&&◌, List, take, drop, Some, None, Option, ◌==◌}
+use Rattle.std.specs.List.{find, list_any}
 use Rattle.metrics.specs.declared.entry.Span.{Span}
 use Rattle.metrics.specs.declared.entry.Glyph.{Glyph}
 use Rattle.metrics.specs.declared.entry.KernPair.{KernPair}
 use Rattle.afm.specs.Parts.{is}
-
--- the first that passes
-unfoldable pub first_of : {X : Type 0} → (X → Bool) → List X → Option X
-first_of f [] = None
-first_of f (x ∷ xs) = cond (f x) (Some x) (first_of f xs)
 
 -- the bytes of a span
 abbrev pub text_at : List ℕ → Span → List ℕ
@@ -26,12 +22,12 @@ is_pair a b pair = pair.first == a && pair.second == b
 
 -- the glyph of a name
 abbrev pub named : List ℕ → List ℕ → List Glyph → Option Glyph
-named file name glyphs = first_of (has_name file name) glyphs
+named file name glyphs = find (has_name file name) glyphs
 
 -- whether a glyph has a code
 abbrev pub coded : ℕ → List Glyph → Bool
-coded code glyphs = is_some (first_of (λ (g : Glyph). has_code code g.code) glyphs)
+coded code glyphs = list_any (λ (g : Glyph). has_code code g.code) glyphs
 
 -- whether a pair has a kern
 abbrev pub paired : ℕ → ℕ → List KernPair → Bool
-paired a b kerns = is_some (first_of (is_pair a b) kerns)
+paired a b kerns = list_any (is_pair a b) kerns

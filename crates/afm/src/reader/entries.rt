@@ -1,6 +1,5 @@
 // What an entry line gives, checked against the entries taken so far.
 ghost use Rattle.std.specs.Prelude.{◌≡◌};
-ghost use Rattle.afm.specs.Lookups.{named};
 ghost use Rattle.afm.specs.Parts.{line as part};
 ghost use Rattle.afm.specs.Steps.{glyph_given, new_glyph, fresh_codes, new_pair};
 
@@ -8,16 +7,15 @@ use super::Reader;
 use crate::entry_line::{glyph_of, pair_of};
 use crate::fault::LineFault;
 use crate::part::Line;
-use crate::search::{Coded, Named, Paired, find, text_at};
+use crate::search::{coded, named, paired, text_at};
 use metrics::entry::{Glyph, KernPair};
 
 impl<'a> Reader<'a> {
+    #[tactic(auto, unfolding(crate::specs::Steps::new_glyph))]
     pub(super) fn new_glyph(&self, line: Line<'a>, glyphs: &[Glyph]) -> Result<Glyph, LineFault>
         ensures { result ≡ new_glyph self.now.file.now glyphs.now (part line.entry) }
     {
-        let Some(glyph) = glyph_of(line) else {
-            return Err(LineFault::Field);
-        };
+        let glyph = glyph_of(line).ok_or(LineFault::Field)?;
         if self.has(glyph, glyphs) {
             Err(LineFault::Again)
         } else {
@@ -29,28 +27,12 @@ impl<'a> Reader<'a> {
     fn has(&self, glyph: Glyph, glyphs: &[Glyph]) -> bool
         ensures { result ≡ glyph_given self.now.file.now glyph glyphs.now }
     {
-        if self.named(text_at(self.file, glyph.name), glyphs).is_some() {
-            return true;
-        }
-        match glyph.code {
-            Some(code) => find(glyphs, &Coded(code)).is_some(),
-            None => false,
-        }
-    }
-
-    fn named(&self, name: &[u8], glyphs: &[Glyph]) -> Option<Glyph>
-        ensures { result ≡ named self.now.file.now name.now glyphs.now }
-    {
-        find(
-            glyphs,
-            &Named {
-                file: self.file,
-                name,
-            },
-        )
+        named(self.file, text_at(self.file, glyph.name), glyphs).is_some()
+            || glyph.code.is_some_and(|code| coded(code, glyphs))
     }
 
     // The pair to keep, if both its glyphs have a code.
+    #[tactic(auto, unfolding(crate::specs::Steps::new_pair))]
     pub(super) fn new_pair(
         &self,
         line: Line<'a>,
@@ -59,15 +41,9 @@ impl<'a> Reader<'a> {
     ) -> Result<Option<KernPair>, LineFault>
         ensures { result ≡ new_pair self.now.file.now glyphs.now kerns.now (part line.entry) }
     {
-        let Some(pair) = pair_of(line) else {
-            return Err(LineFault::Field);
-        };
-        let Some(first) = self.named(pair.first.text, glyphs) else {
-            return Err(LineFault::UnknownName);
-        };
-        let Some(second) = self.named(pair.second.text, glyphs) else {
-            return Err(LineFault::UnknownName);
-        };
+        let pair = pair_of(line).ok_or(LineFault::Field)?;
+        let first = named(self.file, pair.first.text, glyphs).ok_or(LineFault::UnknownName)?;
+        let second = named(self.file, pair.second.text, glyphs).ok_or(LineFault::UnknownName)?;
         fresh_codes(first.code, second.code, pair.kern, kerns)
     }
 }
@@ -83,12 +59,12 @@ fn fresh_codes(
     let (Some(first), Some(second)) = (first, second) else {
         return Ok(None);
     };
-    match find(kerns, &Paired(first, second)) {
-        Some(_) => Err(LineFault::Again),
-        None => Ok(Some(KernPair {
-            first,
-            second,
-            kern,
-        })),
+    if paired(first, second, kerns) {
+        return Err(LineFault::Again);
     }
+    Ok(Some(KernPair {
+        first,
+        second,
+        kern,
+    }))
 }
