@@ -1,5 +1,4 @@
 mod Acts
-mod Numerals
 mod Runs
 mod Scans
 mod Turns

@@ -1,10 +1,5 @@
--- Numbers as a font file writes them: one to five digits, a minus before them or none.
-use Rattle.std.specs.Prelude.{ℕ, cond, ◌&&◌, List, drop, ℤ, pos, neg_ℤ, Some, None, Option, ◌==◌, int_le, slice_index}
-use Rattle.numerals.specs.Reading.{magnitude}
-use Rattle.std.specs.Option.{option_map}
-
-abbrev pub number : List ℕ → Option ℤ
-number text = cond (slice_index text 0 == 45) (option_map (λ n. neg_ℤ (pos n)) (magnitude (drop 1 text))) (option_map pos (magnitude text))
+-- Numbers in a range.
+use Rattle.std.specs.Prelude.{cond, ◌&&◌, ℤ, Some, None, Option, int_le}
 
 abbrev pub in_range : ℤ → ℤ → ℤ → Option ℤ
 in_range low high n = cond (int_le low n && int_le n high) (Some n) None

@@ -26,9 +26,10 @@ abbrev pub answer : {X E : Type 0} → Result X E → Result (Unit {0}) E
 answer (Ok y) = Ok tt
 answer (Err e) = Err e
 
--- a new entry, if a slot is left
-abbrev pub kept : {X : Type 0} → Holding X → X → Result (Holding X) LineFault
-kept r entry = cond (has_room r) (Ok (pushed r entry)) (Err (NoSlot (record {})))
+-- a new entry, if there is one, and a slot is left for it
+abbrev pub kept : {X : Type 0} → Holding X → Option X → Result (Holding X) LineFault
+kept r None = Ok r
+kept r (Some entry) = cond (has_room r) (Ok (pushed r entry)) (Err (NoSlot (record {})))
 
 -- ---- glyphs
 abbrev pub code_given : Option ℕ → List Glyph → Bool
@@ -48,7 +49,7 @@ unfoldable pub new_glyph : List ℕ → List Glyph → Part → Result Glyph Lin
 new_glyph file glyphs line = fresh_glyph file glyphs (glyph_of line)
 
 abbrev pub glyph_kept : Holding Glyph → Result Glyph LineFault → Result (Holding Glyph) LineFault
-glyph_kept r (Ok g) = kept r g
+glyph_kept r (Ok g) = kept r (Some g)
 glyph_kept r (Err e) = Err e
 
 abbrev pub take_glyph : List ℕ → Holding Glyph → Part → Result (Holding Glyph) LineFault
@@ -75,8 +76,7 @@ unfoldable pub new_pair : List ℕ → List Glyph → List KernPair → Part →
 new_pair file glyphs kerns line = fresh_pair file glyphs kerns (pair_of line)
 
 abbrev pub pair_kept : Holding KernPair → Result (Option KernPair) LineFault → Result (Holding KernPair) LineFault
-pair_kept r (Ok None) = Ok r
-pair_kept r (Ok (Some new)) = kept r new
+pair_kept r (Ok new) = kept r new
 pair_kept r (Err e) = Err e
 
 abbrev pub take_pair : List ℕ → List Glyph → Holding KernPair → Part → Result (Holding KernPair) LineFault

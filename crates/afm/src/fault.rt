@@ -1,6 +1,6 @@
 // What a font file is refused for.
 ghost use Rattle.std.specs.Prelude.{◌≡◌};
-ghost use Rattle.afm.specs.Faults.{number, line};
+ghost use Rattle.afm.specs.Faults.{line_fault_number, number, line};
 ghost use Rattle.afm.specs.declared.fault.LineFault.TheVariants.{NoSlot};
 
 use lists::full::Full;
@@ -20,6 +20,21 @@ pub enum LineFault {
     NoSlot(Full),
     // a count that is not the number of entry lines
     Count,
+}
+
+impl LineFault {
+    fn number(self) -> u8
+        ensures { result ≡ line_fault_number self }
+    {
+        match self {
+            LineFault::Misplaced => 10,
+            LineFault::Field => 11,
+            LineFault::Again => 12,
+            LineFault::UnknownName => 13,
+            LineFault::NoSlot(_) => 14,
+            LineFault::Count => 15,
+        }
+    }
 }
 
 impl From<Full> for LineFault {
@@ -43,31 +58,8 @@ impl AfmFault {
         ensures { result ≡ number self }
     {
         match self {
-            AfmFault::At {
-                fault: LineFault::Misplaced,
-                ..
-            } => 10,
-            AfmFault::At {
-                fault: LineFault::Field,
-                ..
-            } => 11,
-            AfmFault::At {
-                fault: LineFault::Again,
-                ..
-            } => 12,
-            AfmFault::At {
-                fault: LineFault::UnknownName,
-                ..
-            } => 13,
-            AfmFault::At {
-                fault: LineFault::NoSlot(_),
-                ..
-            } => 14,
-            AfmFault::At {
-                fault: LineFault::Count,
-                ..
-            }
-            | AfmFault::Over { .. } => 15,
+            AfmFault::At { fault, .. } => fault.number(),
+            AfmFault::Over { .. } => LineFault::Count.number(),
         }
     }
 

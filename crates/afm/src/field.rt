@@ -1,24 +1,30 @@
 // The fields of a line, each in its range.
 ghost use Rattle.std.specs.Prelude.{◌≡◌};
 ghost use Rattle.std.specs.Option.{option_map};
+ghost use Rattle.numerals.specs.Reading.{integer};
 ghost use Rattle.afm.specs.Fields.{code_of, width_of, kern_of, count_of, name_of, expected};
+ghost use Rattle.afm.specs.Numbers.{within};
 ghost use Rattle.afm.specs.Parts.{line, word, first_word, past_word};
 
-use crate::number::number_within;
 use crate::part::{Line, Word};
 use crate::words::is;
 use metrics::measurer::MAX_ADVANCE;
+use numerals::reading::integer;
 
 const MAX_COUNT: i32 = 9_999;
+
+// The number, if it lies in this range.
+fn number_within(text: &[u8], low: i32, high: i32) -> Option<i32>
+    ensures { result ≡ within low high (integer text.now) }
+{
+    integer(text).filter(|n| (low..=high).contains(n))
+}
 
 // A glyph's code, or none for -1.
 pub fn code_of(text: &[u8]) -> Option<Option<u8>>
     ensures { result ≡ code_of text.now }
 {
-    match number_within(text, -1, 255)? {
-        -1 => Some(None),
-        code => Some(Some(code as u8)),
-    }
+    Some(u8::try_from(number_within(text, -1, 255)?).ok())
 }
 
 pub fn width_of(text: &[u8]) -> Option<u16>
@@ -48,11 +54,7 @@ impl<'a> Line<'a> {
         ensures after { line self.new ≡ past_word (line self.old) }
     {
         let word = self.next_word();
-        if is(word.text, keyword) {
-            Some(())
-        } else {
-            None
-        }
+        is(word.text, keyword).then_some(())
     }
 
     // Reads a name, which is any word.
@@ -61,10 +63,6 @@ impl<'a> Line<'a> {
         ensures after { line self.new ≡ past_word (line self.old) }
     {
         let word = self.next_word();
-        if word.text.is_empty() {
-            None
-        } else {
-            Some(word)
-        }
+        (!word.text.is_empty()).then_some(word)
     }
 }

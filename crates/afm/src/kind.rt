@@ -30,10 +30,5 @@ pub fn front_of(kind: Kind, text: &[u8]) -> usize
     ensures value { result ≡ prefix_len (holds kind) text.now }
     ensures bound { result ≤ length text.now }
 {
-    for (i, b) in text.iter().enumerate() {
-        if !kind.holds(*b) {
-            return i;
-        }
-    }
-    text.len()
+    text.iter().take_while(|b| kind.holds(**b)).count()
 }

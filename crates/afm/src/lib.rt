@@ -6,7 +6,6 @@ pub mod fault;
 mod field;
 pub mod font;
 mod kind;
-mod number;
 mod part;
 mod reader;
 mod search;

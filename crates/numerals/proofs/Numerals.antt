@@ -1,9 +1,10 @@
 -- The steps of a loop over digits.
-use Rattle.std.proofs.Common.{◌≡◌, ℕ, ◌+◌, ◌-◌, ◌*◌, ◌^◌, ◌<◌, ◌≤◌, true, false, ◌&&◌, leb, List, length, get_or, drop, Some, None, ◌∙◌, pow-suc, add-one, arith, lit<}
+use Rattle.std.proofs.Common.{◌≡◌, ℕ, ◌+◌, ◌-◌, ◌*◌, ◌^◌, ◌<◌, ◌≤◌, true, false, ◌&&◌, leb, List, length, get_or, take, drop, pos, neg_ℤ, Some, None, Option, sym, ap, ◌∙◌, pow-suc, add-one, arith, lit<}
 use native.Mathlib.Nat.{pow-le-pow_right}
-use Rattle.std.proofs.lemmas.List.{at_drop_more, at_drop_all}
-use Rattle.std.proofs.lemmas.Bool.{cond-true, cond-false, and_from, le-leb}
-use Rattle.numerals.specs.Reading.{digits, magnitude}
+use Rattle.std.proofs.lemmas.List.{at_drop_more, at_drop_all, take_rest}
+use Rattle.std.proofs.lemmas.Bool.{cond-true, cond-false, and_from, le-leb, eq-eqb}
+use Rattle.std.specs.Option.{option_map}
+use Rattle.numerals.specs.Reading.{digits, magnitude, integer}
 
 pub digits_all : (n : ℕ) (xs : List ℕ) (i : ℕ) → length xs ≤ i → digits n (drop i xs) ≡ Some n
 unfolding digits
@@ -26,3 +27,9 @@ magnitude_is xs h k = cond-true _ _ _ (and_from _ _ (le-leb 1 (length xs) h) (le
 
 pub pow_most : (v i : ℕ) → v < 10 ^ i → i ≤ 5 → v < 100000
 pow_most v i h k = let p : 10 ^ i ≤ 10 ^ 5 = pow-le-pow_right (lit< tt) k in omega arith
+
+-- `&text[1..]` holds the digits after a minus
+pub integer_minus : (xs : List ℕ) (o : Option ℕ) → get_or xs 0 0 ≡ 45 → o ≡ magnitude (take (length xs - 1) (drop 1 xs)) → integer xs ≡ option_map (λ n. neg_ℤ (pos n)) o
+integer_minus xs o e m =
+    cond-true _ _ _ (eq-eqb _ _ e) ∙ ap (λ ys. option_map (λ n. neg_ℤ (pos n)) (magnitude ys)) (sym (take_rest xs 1))
+    ∙ ap (option_map (λ n. neg_ℤ (pos n))) (sym m)

@@ -1,6 +1,6 @@
-// Numbers as files write them: one to five digits.
+// Numbers as files write them: one to five digits, with a minus before them or none.
 ghost use Rattle.std.specs.Prelude.{◌≡◌, ◌<◌, IfSome};
-ghost use Rattle.numerals.specs.Reading.{magnitude};
+ghost use Rattle.numerals.specs.Reading.{magnitude, integer};
 
 const MOST_DIGITS: usize = 5;
 
@@ -20,4 +20,14 @@ pub fn magnitude(text: &[u8]) -> Option<u32>
         }
     }
     Some(value)
+}
+
+// The number that digits write, with a minus before them or none.
+pub fn integer(text: &[u8]) -> Option<i32>
+    ensures { result ≡ integer text.now }
+{
+    match text {
+        [b'-', digits @ ..] => Some(-(magnitude(digits)? as i32)),
+        _ => Some(magnitude(text)? as i32),
+    }
 }

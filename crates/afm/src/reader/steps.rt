@@ -14,14 +14,13 @@ use metrics::entry::{Glyph, KernPair};
 
 impl<'a> Reader<'a> {
     // The count of entry lines stands after the first word.
+    #[tactic(auto, unfolding(crate::specs::Steps::open_section))]
     fn open(&mut self, section: Section, mut line: Line<'a>) -> Result<(), LineFault>
         ensures place { place self.new ≡ place self.old }
         ensures after { standing self.new ≡ after (standing self.old) (open_section section (part line.entry)) }
         ensures answer { result ≡ answer (open_section section (part line.entry)) }
     {
-        let Some(count) = count_of(line.next_word().text) else {
-            return Err(LineFault::Field);
-        };
+        let count = count_of(line.next_word().text).ok_or(LineFault::Field)?;
         self.section = section;
         self.announced = count;
         self.seen = 0;
@@ -53,9 +52,7 @@ impl<'a> Reader<'a> {
         ensures answer { result ≡ answer (take_glyph self.old.file.now (holding glyphs.old) (part line.entry)) }
     {
         let glyph = self.new_glyph(line, glyphs.as_slice())?;
-        keep(glyphs, glyph)?;
-        self.seen += 1;
-        Ok(())
+        self.keep(glyphs, Some(glyph))
     }
 
     fn take_pair(
@@ -71,8 +68,25 @@ impl<'a> Reader<'a> {
         ensures after { holding kerns.new ≡ after (holding kerns.old) (take_pair self.old.file.now glyphs.now (holding kerns.old) (part line.entry)) }
         ensures answer { result ≡ answer (take_pair self.old.file.now glyphs.now (holding kerns.old) (part line.entry)) }
     {
-        if let Some(pair) = self.new_pair(line, glyphs, kerns.as_slice())? {
-            keep(kerns, pair)?;
+        let pair = self.new_pair(line, glyphs, kerns.as_slice())?;
+        self.keep(kerns, pair)
+    }
+
+    // Keeps what an entry line gives, if it gives anything, and counts the line.
+    fn keep<T: Copy>(
+        &mut self,
+        list: &mut BoundedList<'_, T>,
+        entry: Option<T>,
+    ) -> Result<(), LineFault>
+        requires { self.old.seen < self.old.line }
+        ensures lender { list.new.slots.ghost_name ≡ list.old.slots.ghost_name }
+        ensures place { place self.new ≡ place self.old }
+        ensures standing { standing self.new ≡ see_after (standing self.old) (kept (holding list.old) entry) }
+        ensures after { holding list.new ≡ after (holding list.old) (kept (holding list.old) entry) }
+        ensures answer { result ≡ answer (kept (holding list.old) entry) }
+    {
+        if let Some(entry) = entry {
+            list.push(entry)?;
         }
         self.seen += 1;
         Ok(())
@@ -126,13 +140,4 @@ impl<'a> Reader<'a> {
             Role::Misplaced => Err(LineFault::Misplaced),
         }
     }
-}
-
-fn keep<T: Copy>(list: &mut BoundedList<'_, T>, entry: T) -> Result<(), LineFault>
-    ensures lender { list.new.slots.ghost_name ≡ list.old.slots.ghost_name }
-    ensures after { holding list.new ≡ after (holding list.old) (kept (holding list.old) entry) }
-    ensures answer { result ≡ answer (kept (holding list.old) entry) }
-{
-    list.push(entry)?;
-    Ok(())
 }
