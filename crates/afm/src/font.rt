@@ -28,6 +28,7 @@ pub fn read_font(
             });
         }
         let line = reader.next_line();
+        // no `map_err`: its closure would read the reader's line, which is no plainer
         if let Err(fault) = reader.take_line(line, glyphs, kerns) {
             return Err(AfmFault::At {
                 line: reader.lines_read(),

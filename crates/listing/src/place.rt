@@ -1,5 +1,5 @@
 // The place that a list is written up to, and the guard that keeps it while an entry is open.
-ghost use Rattle.std.specs.Prelude.{◌≡◌, ◌≤◌, false, length, if◌then◌else◌};
+ghost use Rattle.std.specs.Prelude.{◌≡◌, ◌≤◌, true, false, length, if◌then◌else◌};
 ghost use Rattle.listing.specs.Entries.{word_bytes, outcome, added, entered};
 ghost use Rattle.listing.specs.Places.{front, Kept};
 
@@ -8,7 +8,7 @@ use crate::word::Word;
 use numerals::decimal::Decimal;
 
 // How far a list is written.
-#[derive(Clone, Copy)]
+#[derive(Default, Drop)]
 pub(crate) struct Place {
     pub(crate) at: usize,
 }
@@ -100,18 +100,11 @@ impl<'a> Guard<'a> {
     }
 
     // The entry stays.
-    fn close(self)
-        ensures { self.exit.0.now ≡ self.entry.place.now }
+    fn close(&mut self)
+        ensures lender { self.new.place.ghost_name ≡ self.old.place.ghost_name }
+        ensures same { self.new.place.now ≡ self.old.place.now }
+        ensures closed { self.new.closed ≡ true }
     {
-        let Guard {
-            place,
-            start,
-            closed: _,
-        } = self;
-        let _closed = Guard {
-            place,
-            start,
-            closed: true,
-        };
+        self.closed = true;
     }
 }

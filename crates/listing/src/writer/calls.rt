@@ -16,7 +16,7 @@ impl<'b> ListWriter<'b> {
     {
         ListWriter {
             buffer,
-            place: Place { at: 0 },
+            place: Place::default(),
         }
     }
 
@@ -26,11 +26,7 @@ impl<'b> ListWriter<'b> {
         ensures room { room self.new ≡ room self.old }
         ensures after { outcome (written self.new) result ≡ entered (room self.old) (written self.old) words.now }
     {
-        let mut place = self.place;
-        let buffer = &mut self.buffer;
-        let answer = place.enter(buffer, words);
-        self.place = place;
-        answer
+        self.place.enter(self.buffer, words)
     }
 
     pub fn len(&self) -> usize

@@ -14,9 +14,6 @@ loop-i-init c = record {
   behind = sym (append-nil _);
 }
 
-pub put-requires : goal.put-requires
-put-requires c = c.loop-i.invariant.within
-
 pub returns-in_err-put : goal.returns-in_err-put
 returns-in_err-put c =
     let e = c.in_err-put.ensures in
@@ -32,9 +29,6 @@ returns-in_err-put c =
           entry_refused s b₀ (spaced (take i words)) c.loop-i.guard c.loop-i.buffer c.loop-i.invariant c.put.new.self c.put.new.buffer (32 ∷ []) e.kept e.within
           _ e.after c.args.self.now c.new-guard.ensures.same c.requires words (omega arith) part (search rules) c.from_residual.ensures.0;
     }
-
-pub put_word-requires : goal.put_word-requires
-put_word-requires c = search rules
 
 pub returns-in_err-put_word : goal.returns-in_err-put_word
 returns-in_err-put_word c =
@@ -79,9 +73,6 @@ loop-i-preserved c =
     ] in
     stands_at s b₀ (stands_more s b₀ (done ++ space i) c.if-i-gt0.guard c.if-i-gt0.buffer st c.put_word.new.self c.put_word.new.buffer word e.kept e.within _ e.after)
     (spaced_more words i (Number 0) c.loop-i-test.true) refl refl
-
-pub put-requires-2 : goal.put-requires-2
-put-requires-2 c = c.loop-i.invariant.within
 
 pub returns-in_err-put-2 : goal.returns-in_err-put-2
 returns-in_err-put-2 c =
