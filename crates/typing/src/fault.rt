@@ -16,6 +16,7 @@ pub enum KeyFault {
     Memory,
 }
 
+// By hand: a derived `From` would not say which variant `?` makes, and the contract of `press` does.
 impl From<ReplaceFault> for KeyFault {
     ghost from_gives = { λ e r. r ≡ Refused e };
 

@@ -15,7 +15,7 @@ use sheet::sheet::Sheet;
 
 // How many rows were broken, and how many would have been if all rows were laid anew after each
 // character; both modulo 2^64, as the tally is.
-#[derive(Clone, Copy)]
+#[derive(Clone, Copy, Default)]
 pub struct Effort {
     pub broken: u64,
     pub anew: u64,
@@ -32,13 +32,7 @@ pub fn press<M: Measurer, P: Policy>(
 {
     let at = sheet.char_count();
     let slip = sheet.replace(at, 0, &[c])?;
-    let mut record = Repaint {
-        whole: false,
-        from: 0,
-        removed: 0,
-        put: 0,
-        broken: 0,
-    };
+    let mut record = Repaint::default();
     sheet.settle(slip, &mut record)?;
     screen.follow(sheet, &record)?;
     Ok(record.broken)
@@ -52,12 +46,10 @@ pub fn type_text<M: Measurer, P: Policy>(
 ) -> Result<Effort, Stopped>
     ensures { (k : Making) (h : History) → Follows k h (state M.meaning P.rules sheet.old) → view screen.old ≡ screen_after k h → Keys k h text.now result (state M.meaning P.rules sheet.new) (view screen.new) }
 {
-    let mut effort = Effort { broken: 0, anew: 0 };
+    let mut effort = Effort::default();
     'keys: for (place, c) in text.iter().enumerate() {
-        match press(sheet, screen, *c) {
-            Ok(broken) => effort.broken = effort.broken.wrapping_add(broken),
-            Err(fault) => return Err(Stopped { place, fault }),
-        }
+        let broken = press(sheet, screen, *c).map_err(|fault| Stopped { place, fault })?;
+        effort.broken = effort.broken.wrapping_add(broken);
         effort.anew = effort.anew.wrapping_add(sheet.row_count() as u64);
     }
     Ok(effort)

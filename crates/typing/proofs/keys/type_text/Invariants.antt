@@ -12,4 +12,4 @@ invariant-keys g l =
     (k : Making) (h : History)
     → Follows k h (state g.M.Measurer.meaning g.P.Policy.rules l.initial.sheet)
     → view l.initial.screen ≡ screen_after k h
-    → Keys k h (take l.place l.text) (Ok l.effort) (state g.M.Measurer.meaning g.P.Policy.rules l.sheet) (view l.screen)
+    → Keys k h (take l.place-counter l.text) (Ok l.effort) (state g.M.Measurer.meaning g.P.Policy.rules l.sheet) (view l.screen)
