@@ -1,7 +1,11 @@
--- Rows put into a list one by one.
-use Rattle.std.proofs.Common.{◌≡◌, List, [], ◌∷◌, ◌++◌, sym, ap, ◌∙◌, append_assoc}
+-- Rows put into a list one by one, each as what became of it.
+use Rattle.std.proofs.Common.{◌≡◌, List, [], ◌∷◌, map, refl, ap₂}
+use Rattle.std.specs.List.{AllByRecursion, AllZip}
 use Rattle.page.specs.declared.row.Row.{Row}
 
--- one more behind those that were put in
-pub put_more : (xs ys zs a b : List Row) (r : Row) → a ≡ xs ++ ys → b ≡ a ++ r ∷ [] → zs ≡ ys ++ r ∷ [] → b ≡ xs ++ zs
-put_more xs ys zs a b r p q e = q ∙ ap (λ (x : List Row). x ++ r ∷ []) p ∙ append_assoc xs ys (r ∷ []) ∙ ap (λ (x : List Row). xs ++ x) (sym e)
+module _ (R : Row → Row → Type 0) (P : Row → Type 0) (f : Row → Row) (gives : (x y : Row) → R x y → P x → y ≡ f x) where
+  pub all_became : (xs ys : List Row) → AllZip R xs ys → AllByRecursion P xs → ys ≡ map f xs
+  all_became [] [] z a = refl
+  all_became [] (y ∷ ys) z a = absurd z
+  all_became (x ∷ xs) [] z a = absurd z
+  all_became (x ∷ xs) (y ∷ ys) z a = ap₂ (λ (r : Row) (rs : List Row). r ∷ rs) (gives x y z.0 a.0) (all_became xs ys z.1 a.1)
