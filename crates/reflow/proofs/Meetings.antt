@@ -43,12 +43,6 @@ unmet_before e old s from h b = record {
 abbrev pub Sought : List Row → ℕ → ℕ → ℕ → Type 0
 Sought old from j s = (i : ℕ) (d : Row) → from ≤ i → i < j → i < length old → (get_or old i d).start < s
 
-pub sought_more : (old : List Row) (from j s : ℕ) → Sought old from j s → ((d : Row) → (get_or old j d).start < s) → Sought old from (j + 1) s
-sought_more old from j s c h i d p k l = elim (cases_lt i j) [
-  | inl q ↦ c i d p q l
-  | inr q ↦ let e : i ≡ j = omega arith in rw e (h d)
-]
-
 module _ (old : List Row) (from j s : ℕ) (a : Ascending old) (b : Before old from s) (c : Sought old from j s) where
   pub sought_before : Before old j s
   sought_before i d h l = elim (cases_lt i from) [ inl p ↦ b i d p l | inr p ↦ c i d p h l ]

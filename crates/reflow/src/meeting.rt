@@ -12,15 +12,12 @@ fn seek(old: &[Row], from: usize, place: usize, del: usize) -> usize
     ensures passed { (i : ℕ) (d : OneRow) → from ≤ i → i < result → i < length old.now → (slice_index_or old.now i d).start < place + del }
     ensures stops { (d : OneRow) → result < length old.now → place + del ≤ (slice_index_or old.now result d).start }
 {
-    let mut j = from;
-    'rows: while j < old.len() {
-        let start = old[j].start;
-        if start >= del && start - del >= place {
-            return j;
-        }
-        j += 1;
-    }
-    j
+    let passed = old
+        .iter()
+        .skip(from)
+        .take_while(|row| row.start < del || row.start - del < place)
+        .count();
+    from + passed
 }
 
 // The old row from `from` on that started where a new row starts now; or, if there is none, the old
