@@ -1,6 +1,5 @@
 -- Whether a new row meets the old ones, by where the old ones start.
 use Rattle.std.proofs.Common.{◌≡◌, ℕ, zero, suc, ◌+◌, ◌-◌, ◌<◌, ◌≤◌, Bool, true, false, eqb, leb, List, [], ◌∷◌, length, get_or, drop, refl, ap, ◌∙◌, inl, inr, arith}
-use Rattle.std.proofs.lemmas.List.{get_or_default}
 use Rattle.std.proofs.lemmas.Bool.{cases_Bool, cases_lt, cases_order, eq-eqb, ne_eqb, le-leb, lt-leb, and_from, and_left, and_right, or_from, or_left, or_right}
 use Rattle.std.specs.List.{prefix_len}
 use Rattle.page.specs.declared.ending.Ending.TheVariants.{Wrapped}
@@ -10,12 +9,9 @@ use Rattle.reflow.specs.Relaying.{Ascending, Before, Met, Unmet}
 use Rattle.reflow.specs.Repaints.{starts_at, meets}
 use Rattle.reflow.proofs.RowLists.{leading_yes, leading_no}
 
--- what the code reads past the end of a list of rows, so nowhere
+-- some row, to be read past the end of a list, so nowhere
 abbrev pub zero_row : Row
 zero_row = record { start = 0; end = 0; ending = Wrapped; width = 0; reach = 0 }
-
-pub start_read : (rs : List Row) (j : ℕ) (d : Row) → j < length rs → (get_or rs j d).start ≡ (get_or rs j zero_row).start
-start_read rs j d h = ap (λ (r : Row). r.start) (get_or_default rs j d zero_row h)
 
 starts_none : (rs : List Row) (s : ℕ) → ((i : ℕ) (d : Row) → i < length rs → (get_or rs i d).start ≡ s → ⊥) → starts_at rs s ≡ false
 starts_none [] s h = refl
@@ -40,11 +36,11 @@ unmet_before e old s from h b = record {
 }
 
 -- where a search from row `from` on stopped: the rows that it passed start before s
-abbrev pub Sought : List Row → ℕ → ℕ → ℕ → Type 0
+abbrev Sought : List Row → ℕ → ℕ → ℕ → Type 0
 Sought old from j s = (i : ℕ) (d : Row) → from ≤ i → i < j → i < length old → (get_or old i d).start < s
 
 module _ (old : List Row) (from j s : ℕ) (a : Ascending old) (b : Before old from s) (c : Sought old from j s) where
-  pub sought_before : Before old j s
+  sought_before : Before old j s
   sought_before i d h l = elim (cases_lt i from) [ inl p ↦ b i d p l | inr p ↦ c i d p h l ]
 
   none_there : ((d : Row) → j < length old → s < (get_or old j d).start) → (i : ℕ) (d : Row) → i < length old → (get_or old i d).start ≡ s → ⊥

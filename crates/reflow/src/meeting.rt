@@ -30,8 +30,8 @@ pub(crate) fn meet(old: &[Row], from: usize, edit: Edit, start: usize) -> Result
     }
     let place = start - edit.ins;
     let j = seek(old, from, place, edit.del);
-    if j < old.len() && old[j].start - edit.del == place {
-        return Ok(j);
+    match old.get(j) {
+        Some(row) if row.start - edit.del == place => Ok(j),
+        _ => Err(j),
     }
-    Err(j)
 }
