@@ -3,22 +3,10 @@ use afm::font::read_font;
 use lists::bounded::BoundedList;
 use metrics::entry::{Glyph, KernPair, Span};
 
-const NO_GLYPH: Glyph = Glyph {
-    name: Span { at: 0, len: 0 },
-    code: None,
-    width: 0,
-};
-
-const NO_PAIR: KernPair = KernPair {
-    first: 0,
-    second: 0,
-    kern: 0,
-};
-
 // The number and the line of a refusal, or two zeros; there are slots for three glyphs and one pair.
 fn told(file: &[u8]) -> (u8, usize) {
-    let mut glyphs = [NO_GLYPH; 3];
-    let mut pairs = [NO_PAIR; 1];
+    let mut glyphs = [Glyph::default(); 3];
+    let mut pairs = [KernPair::default(); 1];
     match read_font(
         file,
         &mut BoundedList::new(&mut glyphs),
@@ -33,8 +21,8 @@ fn told(file: &[u8]) -> (u8, usize) {
 fn a_small_font(rt: HostRuntime) {
     let file =
         b"StartFontMetrics 2.0\r\nFontName Slip\r\nStartCharMetrics 2\r\nC 32 ; WX 100 ; N space ;\r\nC -1 ; WX 007 ; N b ; B 0 0 1 1 ;\r\nEndCharMetrics\r\nStartKernPairs 2\r\nKPX space space -1200\r\nKPX space b 5\r\nEndKernPairs\r\nEndFontMetrics\r\nrubbish";
-    let mut glyphs = [NO_GLYPH; 3];
-    let mut pairs = [NO_PAIR; 2];
+    let mut glyphs = [Glyph::default(); 3];
+    let mut pairs = [KernPair::default(); 2];
     let mut glyph_list = BoundedList::new(&mut glyphs);
     let mut pair_list = BoundedList::new(&mut pairs);
     let answer = read_font(file, &mut glyph_list, &mut pair_list);

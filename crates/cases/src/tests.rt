@@ -4,7 +4,7 @@ use fonts::pile::pile;
 use layers::tracking::TrackingUnits;
 use layout::setting::set_text;
 use metrics::cells::Cells;
-use metrics::entry::{Glyph, KernPair, Span};
+use metrics::entry::{Glyph, KernPair};
 use metrics::measurer::Measurer;
 use page::ending::Ending;
 use page::measure::Measure;
@@ -43,9 +43,9 @@ fn sets<M: Measurer, P: Policy>(
 
 fn glyph(code: u8, width: u16) -> Glyph {
     Glyph {
-        name: Span { at: 0, len: 0 },
         code: Some(code),
         width,
+        ..Glyph::default()
     }
 }
 

@@ -4,18 +4,18 @@
 use fonts::pile::pile;
 use layers::tracking::TrackingUnits;
 use layout::edges::write_edges;
-use layout::row_list::RowList;
 use layout::setting::set_text;
 use metrics::cells::Cells;
 use metrics::measurer::Measurer;
 use page::measure::Measure;
-use page::policy::{Anywhere, Policy, Spaces};
+use page::policy::Breaks;
 use page::row::Row;
 use page::text::{MAX_CHARACTERS, Text};
 use preview::drawing::{Column, framed_row, unhung};
-use preview::lines::{row_line, rule_line, spelt};
+use preview::lines::{row_line, spelt};
 use program::font_file;
-use program::options::{Breaks, Options, from_args, input};
+use program::frame::print_framed;
+use program::options::{Options, from_args, input};
 use program::stop::{Stop, ended};
 use std::alloc::{AllocError, Global};
 use std::io;
@@ -41,65 +41,38 @@ fn list(rt: &HostRuntime, text: &Text, rows: &[Row]) -> io::Result<()> {
     Ok(())
 }
 
-fn drawn_row<M: Measurer, P: Policy>(
+fn drawn_row<M: Measurer>(
     heap: Global,
     text: &Text,
     row: &Row,
     measurer: &mut M,
-    policy: &P,
+    policy: Breaks,
     measure: Measure,
     column: Column,
 ) -> Result<String, AllocError> {
     let mut edges = [0; MAX_CHARACTERS];
     write_edges(text, measurer, row.start, row.end, &mut edges);
-    let chars = unhung(policy, text.part(row.start, row.end));
+    let chars = unhung(&policy, text.part(row.start, row.end));
     framed_row(heap, column, measure, chars, &edges)
 }
 
-fn draw<M: Measurer, P: Policy>(
+fn show<M: Measurer>(
     rt: &HostRuntime,
     text: &Text,
-    rows: &[Row],
     measurer: &mut M,
-    policy: &P,
+    policy: Breaks,
     measure: Measure,
     column: Column,
-) -> io::Result<()> {
+) -> Result<(), Stop> {
     let heap = rt.alloc();
-    let rule = rule_line(heap, column.count(measure))?;
-    rt.println(rule.as_str())?;
-    for row in rows {
-        rt.println(drawn_row(heap, text, row, measurer, policy, measure, column)?)?;
-    }
-    rt.println(rule.as_str())
-}
-
-fn show<M: Measurer, P: Policy>(
-    rt: &HostRuntime,
-    text: &Text,
-    measurer: &mut M,
-    policy: &P,
-    measure: Measure,
-    column: Column,
-) -> Result<(), Stop> {
-    let rows: RowList = set_text(rt.alloc(), text, measurer, policy, measure)?;
-    list(rt, text, rows.as_slice())?;
-    draw(rt, text, rows.as_slice(), measurer, policy, measure, column)?;
+    let rows = set_text(heap, text, measurer, &policy, measure)?;
+    let rows = rows.as_slice();
+    list(rt, text, rows)?;
+    let drawn = rows.iter().map(|row| drawn_row(
+        heap, text, row, measurer, policy, measure, column,
+    ));
+    print_framed(rt, column.count(measure), drawn)?;
     Ok(())
-}
-
-fn show_by<M: Measurer>(
-    rt: &HostRuntime,
-    text: &Text,
-    measurer: &mut M,
-    breaks: Breaks,
-    measure: Measure,
-    column: Column,
-) -> Result<(), Stop> {
-    match breaks {
-        Breaks::Spaces => show(rt, text, measurer, &Spaces, measure, column),
-        Breaks::Anywhere => show(rt, text, measurer, &Anywhere, measure, column),
-    }
 }
 
 fn run(rt: &HostRuntime) -> Result<(), Stop> {
@@ -118,11 +91,11 @@ fn run(rt: &HostRuntime) -> Result<(), Stop> {
     let mut cells = Cells::new(500)?;
     let Some(path) = font else {
         let text = Text::new(input(rt, MAX_CHARACTERS)?)?;
-        return show_by(rt, &text, &mut cells, breaks, measure, Column::Cell);
+        return show(rt, &text, &mut cells, breaks, measure, Column::Cell);
     };
     let mut measurer = pile(font_file::load(rt, path.as_str())?, cells, units);
     let text = Text::new(input(rt, MAX_CHARACTERS)?)?;
-    show_by(rt, &text, &mut measurer, breaks, measure, Column::HalfCell)
+    show(rt, &text, &mut measurer, breaks, measure, Column::HalfCell)
 }
 
 fn main(rt: HostRuntime) -> ExitCode {

@@ -2,5 +2,6 @@
 #![tactic(auto)]
 
 pub mod font_file;
+pub mod frame;
 pub mod options;
 pub mod stop;

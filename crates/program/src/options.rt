@@ -1,14 +1,10 @@
 // The options that the programs take, and what they read.
 use crate::stop::{Misuse, Stop};
+use page::policy::Breaks;
+use std::convert::TryFrom;
 use std::io::Read;
+use std::str::FromStr;
 use std::{env, io};
-
-// Where rows may end.
-#[derive(Clone, Copy)]
-pub enum Breaks {
-    Spaces,
-    Anywhere,
-}
 
 // [MEASURE [FONT.afm [TRACKING [spaces|anywhere]]]]
 #[derive(Drop)]
@@ -19,9 +15,9 @@ pub struct Options {
     pub breaks: Breaks,
 }
 
-impl Options {
-    // Cells at measure 5,000, with rows that end after spaces.
-    fn usual() -> Options {
+// Cells at measure 5,000, with rows that end after spaces.
+impl Default for Options {
+    fn default() -> Options {
         Options {
             measure: 5_000,
             font: None,
@@ -34,7 +30,7 @@ impl Options {
 // The options on the command line; none if help is asked for.
 pub fn from_args(rt: &HostRuntime) -> Result<Option<Options>, Stop> {
     let mut args = env::args(rt)?.skip(1);
-    let mut options = Options::usual();
+    let mut options = Options::default();
     if let Some(word) = args.next() {
         if word.as_str() == "--help" {
             return Ok(None);
@@ -46,67 +42,50 @@ pub fn from_args(rt: &HostRuntime) -> Result<Option<Options>, Stop> {
         options.tracking = tracking(word.as_str())?;
     }
     if let Some(word) = args.next() {
-        options.breaks = policy(word.as_str())?;
+        options.breaks = word.as_str().parse()?;
     }
-    if args.next().is_some() {
-        return Err(Stop::Usage(Misuse::TooMany));
+    match args.next() {
+        None => Ok(Some(options)),
+        Some(_) => Err(Stop::Usage(Misuse::TooMany)),
     }
-    Ok(Some(options))
 }
 
 // FONT.afm MEASURE TRACKING spaces|anywhere, or nothing at all; none if help is asked for.
 pub fn all_or_none(rt: &HostRuntime) -> Result<Option<Options>, Stop> {
     let mut args = env::args(rt)?.skip(1);
     let Some(font) = args.next() else {
-        return Ok(Some(Options::usual()));
+        return Ok(Some(Options::default()));
     };
     if font.as_str() == "--help" {
         return Ok(None);
     }
-    let Some(units) = args.next() else {
-        return Err(Stop::Usage(Misuse::TooFew));
-    };
-    let measure = measure(units.as_str())?;
-    let Some(units) = args.next() else {
-        return Err(Stop::Usage(Misuse::TooFew));
-    };
-    let tracking = tracking(units.as_str())?;
-    let Some(word) = args.next() else {
-        return Err(Stop::Usage(Misuse::TooFew));
-    };
-    let breaks = policy(word.as_str())?;
-    if args.next().is_some() {
-        return Err(Stop::Usage(Misuse::TooMany));
-    }
-    Ok(Some(Options {
-        measure,
+    let options = Options {
         font: Some(font),
-        tracking,
-        breaks,
-    }))
-}
-
-// A number too great for a measure stays too great.
-fn measure(word: &str) -> Result<u32, Stop> {
-    match word.parse::<u64>() {
-        Ok(units) => Ok(u32::try_from(units).unwrap_or(u32::MAX)),
-        Err(_) => Err(Stop::Usage(Misuse::Measure)),
+        measure: measure(args.next().ok_or(Misuse::TooFew)?.as_str())?,
+        tracking: tracking(args.next().ok_or(Misuse::TooFew)?.as_str())?,
+        breaks: args.next().ok_or(Misuse::TooFew)?.as_str().parse()?,
+    };
+    match args.next() {
+        None => Ok(Some(options)),
+        Some(_) => Err(Stop::Usage(Misuse::TooMany)),
     }
 }
 
-fn tracking(word: &str) -> Result<i32, Stop> {
-    match word.parse::<i64>() {
-        Ok(units) => Ok(i32::try_from(units).unwrap_or(i32::MAX)),
-        Err(_) => Err(Stop::Usage(Misuse::Tracking)),
-    }
+fn measure(word: &str) -> Result<u32, Misuse> {
+    number::<u64, u32>(word, u32::MAX).ok_or(Misuse::Measure)
 }
 
-fn policy(word: &str) -> Result<Breaks, Stop> {
-    match word {
-        "spaces" => Ok(Breaks::Spaces),
-        "anywhere" => Ok(Breaks::Anywhere),
-        _ => Err(Stop::Usage(Misuse::Policy)),
-    }
+fn tracking(word: &str) -> Result<i32, Misuse> {
+    number::<i64, i32>(word, i32::MAX).ok_or(Misuse::Tracking)
+}
+
+// A number, read as a wide one: what the narrow type cannot hold becomes `most`, which no setting takes.
+fn number<W: FromStr, N: TryFrom<W> + Drop>(word: &str, most: N) -> Option<N>
+where
+    W::Err: Drop,
+    N::Error: Drop,
+{
+    Some(N::try_from(word.parse::<W>().ok()?).unwrap_or(most))
 }
 
 // Standard input. One byte more than there may be is enough to see that there are too many.

@@ -7,9 +7,9 @@ use listing::writer::ListWriter;
 use metrics::cells::Cells;
 use metrics::measurer::Measurer;
 use page::measure::Measure;
-use page::policy::{Anywhere, Policy, Spaces};
+use page::policy::Breaks;
 use program::font_file;
-use program::options::{Breaks, Options, all_or_none, input};
+use program::options::{Options, all_or_none, input};
 use program::stop::{Stop, ended};
 use runner::replay::replay;
 use runner::run::MAX_SCRIPT;
@@ -31,32 +31,19 @@ them a font over cells of 500, and TRACKING, -500 to 500, between characters.";
 // How many bytes a list may have.
 const ROOM: usize = 60_000;
 
-fn list<M: Measurer + Drop, P: Policy + Drop>(
+fn list<M: Measurer + Drop>(
     rt: &HostRuntime,
-    script: &[u8],
     measurer: M,
-    policy: P,
+    policy: Breaks,
     measure: Measure,
 ) -> Result<(), Stop> {
     let heap = rt.alloc();
+    let script = input(rt, MAX_SCRIPT)?;
     let mut buffer = vec![in heap; 0; ROOM]?;
     let mut list = ListWriter::new(&mut buffer);
-    let ended = replay(heap, measurer, policy, measure, script, &mut list);
+    let ended = replay(heap, measurer, policy, measure, &script, &mut list);
     rt.stdout().write_all(list.written())?;
     Ok(ended?)
-}
-
-fn list_by<M: Measurer + Drop>(
-    rt: &HostRuntime,
-    measurer: M,
-    breaks: Breaks,
-    measure: Measure,
-) -> Result<(), Stop> {
-    let script = input(rt, MAX_SCRIPT)?;
-    match breaks {
-        Breaks::Spaces => list(rt, &script, measurer, Spaces, measure),
-        Breaks::Anywhere => list(rt, &script, measurer, Anywhere, measure),
-    }
 }
 
 fn show(rt: &HostRuntime) -> Result<(), Stop> {
@@ -74,10 +61,10 @@ fn show(rt: &HostRuntime) -> Result<(), Stop> {
     let units = TrackingUnits::new(tracking)?;
     let cells = Cells::new(500)?;
     let Some(path) = font else {
-        return list_by(rt, cells, breaks, measure);
+        return list(rt, cells, breaks, measure);
     };
     let font = font_file::load(rt, path.as_str())?;
-    list_by(rt, pile(font, cells, units), breaks, measure)
+    list(rt, pile(font, cells, units), breaks, measure)
 }
 
 fn main(rt: HostRuntime) -> ExitCode {

@@ -4,7 +4,7 @@ use fonts::font::Font;
 use fonts::pile::pile;
 use layers::tracking::TrackingUnits;
 use metrics::cells::Cells;
-use metrics::entry::{Glyph, KernPair, Span};
+use metrics::entry::{Glyph, KernPair};
 use metrics::measurer::Measurer;
 use page::ending::Ending;
 use page::measure::Measure;
@@ -42,9 +42,9 @@ fn replaces<M: Measurer, P: Policy>(
 
 fn glyph(code: u8, width: u16) -> Glyph {
     Glyph {
-        name: Span { at: 0, len: 0 },
         code: Some(code),
         width,
+        ..Glyph::default()
     }
 }
 

@@ -6,12 +6,13 @@ use layers::tracking::TrackingUnits;
 use metrics::cells::Cells;
 use metrics::measurer::Measurer;
 use page::measure::Measure;
-use page::policy::{Anywhere, Policy, Spaces};
+use page::policy::{Breaks, Policy};
 use page::text::MAX_CHARACTERS;
 use preview::drawing::{Column, framed_row, unhung};
-use preview::lines::{row_line, rule_line, spelt};
+use preview::lines::{row_line, spelt};
 use program::font_file;
-use program::options::{Breaks, Options, from_args, input};
+use program::frame::print_framed;
+use program::options::{Options, from_args, input};
 use program::stop::{Stop, ended};
 use screen::screen::Screen;
 use sheet::sheet::Sheet;
@@ -47,57 +48,32 @@ fn list<M: Measurer, P: Policy>(rt: &HostRuntime, sheet: &Sheet<M, P>) -> io::Re
 }
 
 fn tell(rt: &HostRuntime, effort: Effort) -> io::Result<()> {
-    let broken = effort.broken;
-    let anew = effort.anew;
-    println!(rt; "rows broken: {broken}; if all were laid anew after each character: {anew}")
+    println!(rt;
+        "rows broken: {}; if all were laid anew after each character: {}",
+        effort.broken, effort.anew
+    )
 }
 
-fn draw<P: Policy>(
-    rt: &HostRuntime,
-    screen: &Screen,
-    policy: &P,
-    measure: Measure,
-    column: Column,
-) -> io::Result<()> {
-    let heap = rt.alloc();
-    let rule = rule_line(heap, column.count(measure))?;
-    rt.println(rule.as_str())?;
-    for row in screen.rows() {
-        let chars = unhung(policy, row.chars());
-        rt.println(framed_row(heap, column, measure, chars, row.edges())?)?;
-    }
-    rt.println(rule.as_str())
-}
-
-fn show<M: Measurer + Drop, P: Policy + Copy>(
+fn show<M: Measurer + Drop>(
     rt: &HostRuntime,
     text: &[u8],
     measurer: M,
-    policy: P,
+    policy: Breaks,
     measure: Measure,
     column: Column,
 ) -> Result<(), Stop> {
-    let mut sheet = Sheet::new(rt.alloc(), measurer, policy, measure)?;
-    let mut screen = Screen::new(rt.alloc())?;
+    let heap = rt.alloc();
+    let mut sheet = Sheet::new(heap, measurer, policy, measure)?;
+    let mut screen = Screen::new(heap)?;
     let effort = type_text(&mut sheet, &mut screen, text)?;
     list(rt, &sheet)?;
     tell(rt, effort)?;
-    draw(rt, &screen, &policy, measure, column)?;
+    let drawn = screen.rows().iter().map(|row| {
+        let chars = unhung(&policy, row.chars());
+        framed_row(heap, column, measure, chars, row.edges())
+    });
+    print_framed(rt, column.count(measure), drawn)?;
     Ok(())
-}
-
-fn show_by<M: Measurer + Drop>(
-    rt: &HostRuntime,
-    text: &[u8],
-    measurer: M,
-    breaks: Breaks,
-    measure: Measure,
-    column: Column,
-) -> Result<(), Stop> {
-    match breaks {
-        Breaks::Spaces => show(rt, text, measurer, Spaces, measure, column),
-        Breaks::Anywhere => show(rt, text, measurer, Anywhere, measure, column),
-    }
 }
 
 fn run(rt: &HostRuntime) -> Result<(), Stop> {
@@ -116,11 +92,11 @@ fn run(rt: &HostRuntime) -> Result<(), Stop> {
     let cells = Cells::new(500)?;
     let Some(path) = font else {
         let text = input(rt, MAX_CHARACTERS)?;
-        return show_by(rt, &text, cells, breaks, measure, Column::Cell);
+        return show(rt, &text, cells, breaks, measure, Column::Cell);
     };
     let measurer = pile(font_file::load(rt, path.as_str())?, cells, units);
     let text = input(rt, MAX_CHARACTERS)?;
-    show_by(rt, &text, measurer, breaks, measure, Column::HalfCell)
+    show(rt, &text, measurer, breaks, measure, Column::HalfCell)
 }
 
 fn main(rt: HostRuntime) -> ExitCode {
