@@ -1,9 +1,9 @@
 // Calls on a sheet that are not settled straight after.
-use crate::outcome::Stop;
+use crate::stop::Stop;
 use metrics::cells::Cells;
 use metrics::measurer::Measurer;
 use page::measure::Measure;
-use page::policy::{Policy, Spaces};
+use page::policy::{Breaks, Spaces};
 use page::row::Row;
 use page::text::MAX_CHARACTERS;
 use reflow::repaint::Repaint;
@@ -38,9 +38,9 @@ fn spend(bank: &mut Sheet<Cells, Spaces>, slip: Slip) {
     let _ = bank.settle(slip, &mut record);
 }
 
-fn call<M: Measurer, P: Policy>(
+fn call<M: Measurer>(
     line: &[u8],
-    sheet: &mut Sheet<M, P>,
+    sheet: &mut Sheet<M, Breaks>,
     bank: &mut Sheet<Cells, Spaces>,
     text: &mut [u8; MAX_CHARACTERS],
     buffer: &mut [u8],
@@ -62,53 +62,54 @@ fn call<M: Measurer, P: Policy>(
 }
 
 fn print_shown(rt: &HostRuntime, number: u64, row: Row, buffer: &[u8]) -> io::Result<()> {
-    let start = row.start;
-    let end = row.end;
-    let letter = row.ending.letter();
-    let width = row.width;
-    let reach = row.reach;
-    print!(rt; "{number} = {start} {end} {letter} {width} {reach} ")?;
-    let len = end.saturating_sub(start).min(buffer.len());
+    print!(rt;
+        "{number} = {} {} {} {} {} ",
+        row.start,
+        row.end,
+        row.ending.letter(),
+        row.width,
+        row.reach
+    )?;
+    let len = row.end.saturating_sub(row.start).min(buffer.len());
     rt.stdout().write_all(&buffer[0..len])?;
     rt.println("")
 }
 
 fn print_settled(rt: &HostRuntime, number: u64, record: Repaint, rows: usize) -> io::Result<()> {
-    let whole = u8::from(record.whole);
-    let from = record.from;
-    let removed = record.removed;
-    let put = record.put;
-    let broken = record.broken;
-    println!(rt; "{number} {whole} {from} {removed} {put} {broken} {rows}")
+    println!(rt;
+        "{number} {} {} {} {} {} {rows}",
+        u8::from(record.whole),
+        record.from,
+        record.removed,
+        record.put,
+        record.broken
+    )
 }
 
 fn print_fault(rt: &HostRuntime, number: u64, fault: CommandFault) -> io::Result<()> {
     match fault.told() {
         Told::Number(told) => println!(rt; "{number} ! {told}"),
-        Told::NoGlyph(u) => {
-            let told = u.number();
-            let offset = u.offset;
-            let code = u.glyph.code;
-            let depth = u.glyph.depth;
-            println!(rt; "{number} ! {told} {offset} {code} {depth}")
-        }
+        Told::NoGlyph(u) => println!(rt;
+            "{number} ! {} {} {} {}",
+            u.number(),
+            u.offset,
+            u.glyph.code,
+            u.glyph.depth
+        ),
     }
 }
 
-pub fn print_calls<M: Measurer + Drop, P: Policy + Drop>(
+pub fn print_calls<M: Measurer + Drop>(
     rt: &HostRuntime,
     measurer: M,
-    policy: P,
+    policy: Breaks,
     measure: Measure,
     room: usize,
     calls: &[u8],
 ) -> Result<(), Stop> {
     let heap = rt.alloc();
     let mut sheet = Sheet::new(heap, measurer, policy, measure)?;
-    let Ok(cells) = Cells::new(500) else {
-        return Ok(());
-    };
-    let mut bank = Sheet::new(heap, cells, Spaces, measure)?;
+    let mut bank = Sheet::new(heap, Cells::new(500)?, Spaces, measure)?;
     let mut text = [0; MAX_CHARACTERS];
     let mut buffer = vec![in heap; 0; room]?;
     let mut lines = Lines::new(calls);
@@ -118,8 +119,7 @@ pub fn print_calls<M: Measurer + Drop, P: Policy + Drop>(
         let rows = sheet.row_count();
         match call(line, &mut sheet, &mut bank, &mut text, &mut buffer) {
             Ok(Answer::Accepted) => {
-                let rows = sheet.row_count();
-                println!(rt; "{number} accepted {rows}")?;
+                println!(rt; "{number} accepted {}", sheet.row_count())?;
             }
             Ok(Answer::Settled(record)) => print_settled(rt, number, record, rows)?,
             Ok(Answer::Shown(row)) => print_shown(rt, number, row, &buffer)?,

@@ -1,12 +1,11 @@
 // The cases of a file.
-use numerals::reading::magnitude;
-use script::split::split_once;
+ghost use Rattle.std.specs.Prelude.{◌<◌, ◌≤◌, length, IfSome};
+ghost use Rattle.std.specs.Iterator.{at_most};
 
-#[derive(Clone, Copy)]
-pub enum Breaks {
-    Spaces,
-    Anywhere,
-}
+use numerals::reading::magnitude;
+use page::policy::Breaks;
+use script::split::split_once;
+use std::mem;
 
 // What the sheet of a case is made from, beside its measurer, and how much room its list has.
 #[derive(Clone, Copy)]
@@ -16,111 +15,140 @@ pub struct Setting {
     pub room: usize,
 }
 
+// The lines of a case on cells.
 #[derive(Clone, Copy)]
-pub enum Case<'a> {
-    // a script on cells
-    Cells {
-        size: u32,
-        setting: Setting,
-        script: &'a [u8],
-    },
-    // a script on the pile over a font
-    Font {
-        glyphs: usize,
-        kerns: usize,
-        tracking: i32,
-        setting: Setting,
-        font: &'a [u8],
-        script: &'a [u8],
-    },
-    // calls on cells, which are not settled straight after
-    Calls {
-        size: u32,
-        setting: Setting,
-        calls: &'a [u8],
-    },
+pub struct CellsCase<'a> {
+    pub size: u32,
+    pub setting: Setting,
+    pub lines: &'a [u8],
 }
 
-// The cases that are still to be read.
+// A script on the pile over a font, with slots for so many glyphs and kern pairs.
+#[derive(Clone, Copy)]
+pub struct FontCase<'a> {
+    pub glyphs: usize,
+    pub kerns: usize,
+    pub tracking: i32,
+    pub setting: Setting,
+    pub font: &'a [u8],
+    pub script: &'a [u8],
+}
+
+#[derive(Clone, Copy)]
+pub enum Case<'a> {
+    // a script
+    Script(CellsCase<'a>),
+    // calls that are not settled straight after
+    Calls(CellsCase<'a>),
+    Font(FontCase<'a>),
+}
+
+// The bytes are no case.
+#[derive(Clone, Copy, Debug)]
+pub struct Unreadable;
+
+// The cases that are still to be read. After bytes that are no case there are none.
 #[derive(Drop)]
-pub struct CaseReader<'a> {
+pub struct Cases<'a> {
     rest: &'a [u8],
 }
 
-impl<'a> CaseReader<'a> {
-    pub fn new(bytes: &'a [u8]) -> CaseReader<'a> {
-        CaseReader { rest: bytes }
+impl<'a> Cases<'a> {
+    pub fn new(bytes: &'a [u8]) -> Cases<'a> {
+        Cases { rest: bytes }
     }
+}
 
-    pub fn is_over(&self) -> bool {
-        self.rest.is_empty()
-    }
+impl<'a> Iterator for Cases<'a> {
+    type Item = Result<Case<'a>, Unreadable>;
 
-    // The next case; none where the bytes are no case.
-    pub fn next(&mut self) -> Option<Case<'a>> {
-        let (header, rest) = split_once(self.rest, b'\n')?;
-        self.rest = rest;
-        let mut words = Words { rest: Some(header) };
-        let case = match words.next()? {
-            b"cells" => self.cells(&mut words)?,
-            b"font" => self.font(&mut words)?,
-            b"calls" => self.calls(&mut words)?,
-            _ => return None,
-        };
-        match words.next() {
-            None => Some(case),
-            Some(_) => None,
+    ghost remaining = { λ s. at_most (length s.rest.now) };
+
+    fn next(&mut self) -> Option<Result<Case<'a>, Unreadable>> {
+        let bytes = mem::replace(&mut self.rest, &[]);
+        if bytes.is_empty() {
+            return None;
         }
+        let Some((case, rest)) = case_and_rest(bytes) else {
+            return Some(Err(Unreadable));
+        };
+        self.rest = rest;
+        Some(Ok(case))
     }
+}
 
-    fn cells(&mut self, words: &mut Words) -> Option<Case<'a>> {
-        let size = words.number()?;
-        let setting = words.setting()?;
-        let len = words.number()? as usize;
-        Some(Case::Cells {
+// The first case, and the bytes behind it.
+fn case_and_rest(bytes: &[u8]) -> Option<(Case<'_>, &[u8])>
+    ensures { IfSome result (λ p. length p.1.now < length bytes.now) }
+{
+    let end = bytes.iter().position(|b| *b == b'\n')?;
+    let mut words = Words {
+        rest: Some(&bytes[..end]),
+    };
+    let read = case_by(&mut words, &bytes[end + 1..])?;
+    match words.next() {
+        None => Some(read),
+        Some(_) => None,
+    }
+}
+
+// The case that the words say, over the bytes in front.
+fn case_by<'a>(words: &mut Words, bytes: &'a [u8]) -> Option<(Case<'a>, &'a [u8])>
+    ensures { IfSome result (λ p. length p.1.now ≤ length bytes.now) }
+{
+    match words.next()? {
+        b"cells" => {
+            let (on, rest) = on_cells(words, bytes)?;
+            Some((Case::Script(on), rest))
+        }
+        b"calls" => {
+            let (on, rest) = on_cells(words, bytes)?;
+            Some((Case::Calls(on), rest))
+        }
+        b"font" => {
+            let (on, rest) = on_font(words, bytes)?;
+            Some((Case::Font(on), rest))
+        }
+        _ => None,
+    }
+}
+
+fn on_cells<'a>(words: &mut Words, bytes: &'a [u8]) -> Option<(CellsCase<'a>, &'a [u8])>
+    ensures { IfSome result (λ p. length p.1.now ≤ length bytes.now) }
+{
+    let size = words.number()?;
+    let setting = words.setting()?;
+    let (lines, rest) = bytes.split_at_checked(words.number()? as usize)?;
+    Some((
+        CellsCase {
             size,
             setting,
-            script: self.bytes(len)?,
-        })
-    }
+            lines,
+        },
+        rest,
+    ))
+}
 
-    fn calls(&mut self, words: &mut Words) -> Option<Case<'a>> {
-        let size = words.number()?;
-        let setting = words.setting()?;
-        let len = words.number()? as usize;
-        Some(Case::Calls {
-            size,
-            setting,
-            calls: self.bytes(len)?,
-        })
-    }
-
-    fn font(&mut self, words: &mut Words) -> Option<Case<'a>> {
-        let glyphs = words.number()? as usize;
-        let kerns = words.number()? as usize;
-        let tracking = words.signed()?;
-        let setting = words.setting()?;
-        let font = words.number()? as usize;
-        let script = words.number()? as usize;
-        Some(Case::Font {
+fn on_font<'a>(words: &mut Words, bytes: &'a [u8]) -> Option<(FontCase<'a>, &'a [u8])>
+    ensures { IfSome result (λ p. length p.1.now ≤ length bytes.now) }
+{
+    let glyphs = words.number()? as usize;
+    let kerns = words.number()? as usize;
+    let tracking = words.signed()?;
+    let setting = words.setting()?;
+    let (font, rest) = bytes.split_at_checked(words.number()? as usize)?;
+    let (script, rest) = rest.split_at_checked(words.number()? as usize)?;
+    Some((
+        FontCase {
             glyphs,
             kerns,
             tracking,
             setting,
-            font: self.bytes(font)?,
-            script: self.bytes(script)?,
-        })
-    }
-
-    // So many bytes, if there are as many.
-    fn bytes(&mut self, len: usize) -> Option<&'a [u8]> {
-        let rest = self.rest;
-        if len > rest.len() {
-            return None;
-        }
-        self.rest = &rest[len..];
-        Some(&rest[0..len])
-    }
+            font,
+            script,
+        },
+        rest,
+    ))
 }
 
 // The words of a header, with single spaces between them.
@@ -156,17 +184,10 @@ impl<'a> Words<'a> {
     }
 
     fn setting(&mut self) -> Option<Setting> {
-        let measure = self.number()?;
-        let breaks = match self.next()? {
-            b"spaces" => Breaks::Spaces,
-            b"anywhere" => Breaks::Anywhere,
-            _ => return None,
-        };
-        let room = self.number()? as usize;
         Some(Setting {
-            measure,
-            breaks,
-            room,
+            measure: self.number()?,
+            breaks: str::from_utf8(self.next()?).ok()?.parse().ok()?,
+            room: self.number()? as usize,
         })
     }
 }

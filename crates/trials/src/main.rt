@@ -1,31 +1,30 @@
 // Runs many cases, one after another, and prints what came of each.
 #![tactic(auto)]
 
+use std::io;
 use std::io::Read;
 use std::process::ExitCode;
 
 mod calls;
 mod case;
 mod outcome;
+mod stop;
 
-use crate::case::CaseReader;
-use crate::outcome::{Stop, print_outcome};
+use crate::case::Cases;
+use crate::outcome::print_outcome;
 
-fn run(rt: &HostRuntime) -> Result<(), Stop> {
+fn run(rt: &HostRuntime) -> io::Result<()> {
     let mut bytes = Vec::new(rt.alloc());
     rt.stdin().read_to_end(&mut bytes)?;
-    let mut cases = CaseReader::new(&bytes);
     // each case has at least one byte
-    for number in 1..=bytes.len() {
-        if cases.is_over() {
-            break;
+    for (number, case) in (1..=bytes.len()).zip(Cases::new(&bytes)) {
+        match case {
+            Ok(case) => {
+                println!(rt; "case {number}")?;
+                print_outcome(rt, &case)?;
+            }
+            Err(_) => println!(rt; "case {number}: unreadable")?,
         }
-        let Some(case) = cases.next() else {
-            println!(rt; "case {number}: unreadable")?;
-            break;
-        };
-        println!(rt; "case {number}")?;
-        print_outcome(rt, &case)?;
     }
     Ok(())
 }

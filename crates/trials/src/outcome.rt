@@ -1,6 +1,7 @@
 // What comes of a case.
 use crate::calls::print_calls;
-use crate::case::{Breaks, Case, Setting};
+use crate::case::{Case, FontCase};
+use crate::stop::Stop;
 use afm::font::read_font;
 use fonts::font::Font;
 use fonts::pile::pile;
@@ -8,138 +9,83 @@ use layers::tracking::TrackingUnits;
 use listing::writer::ListWriter;
 use lists::bounded::BoundedList;
 use metrics::cells::Cells;
-use metrics::entry::{Glyph, KernPair, Span};
+use metrics::entry::{Glyph, KernPair};
 use metrics::measurer::Measurer;
 use page::measure::Measure;
-use page::policy::{Anywhere, Policy, Spaces};
+use page::policy::Breaks;
 use runner::run::run;
 use sheet::sheet::Sheet;
-use std::alloc::AllocError;
 use std::io;
 use std::io::Write;
 
-// What ends the program: a stream that cannot be read or written, or want of memory.
-#[derive(Drop)]
-pub enum Stop {
-    Io(io::Error),
-    Memory(AllocError),
-}
-
-impl From<io::Error> for Stop {
-    fn from(e: io::Error) -> Stop {
-        Stop::Io(e)
+// Runs a case; what refuses it is printed behind what it printed before.
+pub fn print_outcome(rt: &HostRuntime, case: &Case) -> io::Result<()> {
+    match print_case(rt, case) {
+        Ok(()) => Ok(()),
+        Err(Stop::Io(e)) => Err(e),
+        Err(Stop::Memory(e)) => Err(e.into()),
+        Err(refused) => rt.println(refused),
     }
 }
 
-impl From<AllocError> for Stop {
-    fn from(e: AllocError) -> Stop {
-        Stop::Memory(e)
-    }
-}
-
-pub fn print_outcome(rt: &HostRuntime, case: &Case) -> Result<(), Stop> {
-    match *case {
-        Case::Cells {
-            size,
-            setting,
-            script,
-        } => {
-            let Ok(cells) = Cells::new(size) else {
-                return Ok(rt.println(17)?);
-            };
-            print_run(rt, cells, setting, script)
+fn print_case(rt: &HostRuntime, case: &Case) -> Result<(), Stop> {
+    match case {
+        Case::Script(on) => {
+            let cells = Cells::new(on.size)?;
+            let measure = Measure::new(on.setting.measure)?;
+            print_list(
+                rt,
+                cells,
+                on.setting.breaks,
+                measure,
+                on.setting.room,
+                on.lines,
+            )
         }
-        Case::Font {
-            glyphs,
-            kerns,
-            tracking,
-            setting,
-            font,
-            script,
-        } => { print_font(rt, glyphs, kerns, tracking, setting, font, script) }
-        Case::Calls {
-            size,
-            setting,
-            calls,
-        } => {
-            let Ok(cells) = Cells::new(size) else {
-                return Ok(rt.println(17)?);
-            };
-            let Ok(measure) = Measure::new(setting.measure) else {
-                return Ok(rt.println(6)?);
-            };
-            match setting.breaks {
-                Breaks::Spaces => print_calls(rt, cells, Spaces, measure, setting.room, calls),
-                Breaks::Anywhere => print_calls(rt, cells, Anywhere, measure, setting.room, calls),
-            }
+        Case::Calls(on) => {
+            let cells = Cells::new(on.size)?;
+            let measure = Measure::new(on.setting.measure)?;
+            print_calls(
+                rt,
+                cells,
+                on.setting.breaks,
+                measure,
+                on.setting.room,
+                on.lines,
+            )
         }
+        Case::Font(on) => print_font(rt, on),
     }
 }
 
 // A script on the pile over a font, if the font is read.
-fn print_font(
-    rt: &HostRuntime,
-    glyphs: usize,
-    kerns: usize,
-    tracking: i32,
-    setting: Setting,
-    font: &[u8],
-    script: &[u8],
-) -> Result<(), Stop> {
+fn print_font(rt: &HostRuntime, on: &FontCase) -> Result<(), Stop> {
     let heap = rt.alloc();
-    let Ok(units) = TrackingUnits::new(tracking) else {
-        return Ok(rt.println(17)?);
-    };
-    let Ok(cells) = Cells::new(500) else {
-        return Ok(rt.println(17)?);
-    };
-    if Measure::new(setting.measure).is_err() {
-        return Ok(rt.println(6)?);
-    }
-    let no_glyph = Glyph {
-        name: Span { at: 0, len: 0 },
-        code: None,
-        width: 0,
-    };
-    let no_pair = KernPair {
-        first: 0,
-        second: 0,
-        kern: 0,
-    };
-    let mut glyph_slots = vec![in heap; no_glyph; glyphs]?;
-    let mut kern_slots = vec![in heap; no_pair; kerns]?;
-    let mut glyph_list = BoundedList::new(&mut glyph_slots);
-    let mut kern_list = BoundedList::new(&mut kern_slots);
-    if let Err(fault) = read_font(font, &mut glyph_list, &mut kern_list) {
-        let number = fault.number();
-        let line = fault.line();
-        println!(rt; "{number} {line}")?;
-        return Ok(());
-    }
-    let font = Font::new(heap, glyph_list.as_slice(), kern_list.as_slice())?;
-    print_run(rt, pile(font, cells, units), setting, script)
+    let units = TrackingUnits::new(on.tracking)?;
+    let cells = Cells::new(500)?;
+    let measure = Measure::new(on.setting.measure)?;
+    let mut glyph_slots = vec![in heap; Glyph::default(); on.glyphs]?;
+    let mut kern_slots = vec![in heap; KernPair::default(); on.kerns]?;
+    let mut glyphs = BoundedList::new(&mut glyph_slots);
+    let mut kerns = BoundedList::new(&mut kern_slots);
+    read_font(on.font, &mut glyphs, &mut kerns)?;
+    let font = Font::new(heap, glyphs.as_slice(), kerns.as_slice())?;
+    let measurer = pile(font, cells, units);
+    print_list(
+        rt,
+        measurer,
+        on.setting.breaks,
+        measure,
+        on.setting.room,
+        on.script,
+    )
 }
 
 // The list of a script, and where it ran out of room.
-fn print_run<M: Measurer + Drop>(
+fn print_list<M: Measurer + Drop>(
     rt: &HostRuntime,
     measurer: M,
-    setting: Setting,
-    script: &[u8],
-) -> Result<(), Stop> {
-    let Ok(measure) = Measure::new(setting.measure) else {
-        return Ok(rt.println(6)?);
-    };
-    match setting.breaks {
-        Breaks::Spaces => print_list(rt, measurer, Spaces, measure, setting.room, script),
-        Breaks::Anywhere => print_list(rt, measurer, Anywhere, measure, setting.room, script),
-    }
-}
-
-fn print_list<M: Measurer + Drop, P: Policy + Drop>(
-    rt: &HostRuntime,
-    measurer: M,
-    policy: P,
+    policy: Breaks,
     measure: Measure,
     room: usize,
     script: &[u8],
@@ -150,9 +96,5 @@ fn print_list<M: Measurer + Drop, P: Policy + Drop>(
     let mut list = ListWriter::new(&mut buffer);
     let ended = run(script, &mut sheet, &mut list);
     rt.stdout().write_all(list.written())?;
-    if let Err(full) = ended {
-        let line = full.line;
-        println!(rt; "9 {line}")?;
-    }
-    Ok(())
+    Ok(ended?)
 }
