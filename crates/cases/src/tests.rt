@@ -2,7 +2,7 @@
 use fonts::font::Font;
 use fonts::pile::pile;
 use layers::tracking::TrackingUnits;
-use layout::setting::set_text;
+use layout::setter::Setter;
 use metrics::cells::Cells;
 use metrics::entry::{Glyph, KernPair};
 use metrics::measurer::Measurer;
@@ -26,19 +26,22 @@ fn row(start: usize, end: usize, ending: Ending, width: u32, reach: usize) -> Ro
 }
 
 // Sets `text` and compares its rows.
-fn sets<M: Measurer, P: Policy>(
+fn sets<M: Measurer + Drop, P: Policy + Drop>(
     rt: &impl Abort,
     heap: Global,
-    measurer: &mut M,
-    policy: &P,
-    measure: u32,
+    mut setter: Setter<M, P>,
     text: &str,
     rows: &[Row],
 ) -> Result<(), Fail> {
     let chars = Text::new(text.as_bytes().to_vec(heap)?)?;
-    let set = set_text(heap, &chars, measurer, policy, Measure::new(measure)?)?;
+    let set = setter.set_text(heap, &chars)?;
     assert_eq!(rt; set.as_slice(), rows);
     Ok(())
+}
+
+// Cells of 500.
+fn cells<P>(policy: P, measure: u32) -> Result<Setter<Cells, P>, Fail> {
+    Ok(Setter::new(Cells::new(500)?, policy, Measure::new(measure)?))
 }
 
 fn glyph(code: u8, width: u16) -> Glyph {
@@ -52,79 +55,62 @@ fn glyph(code: u8, width: u16) -> Glyph {
 #[test]
 fn worked_labels(rt: HostRuntime) -> Result<(), Fail> {
     let heap = rt.alloc();
-    let mut cells = Cells::new(500)?;
     let end = Ending::End;
     let cut = Ending::Cut;
     let wrapped = Ending::Wrapped;
     sets(
         &rt,
         heap,
-        &mut cells,
-        &Spaces,
-        5_000,
+        cells(Spaces, 5_000)?,
         "",
         &[row(0, 0, end, 0, 1)],
     )?;
     sets(
         &rt,
         heap,
-        &mut cells,
-        &Spaces,
-        5_000,
+        cells(Spaces, 5_000)?,
         "abcdefghij",
         &[row(0, 10, end, 5_000, 11)],
     )?;
     sets(
         &rt,
         heap,
-        &mut cells,
-        &Spaces,
-        5_000,
+        cells(Spaces, 5_000)?,
         "abcdefghijk",
         &[row(0, 10, cut, 5_000, 11), row(10, 11, end, 500, 12)],
     )?;
     sets(
         &rt,
         heap,
-        &mut cells,
-        &Spaces,
-        5_000,
+        cells(Spaces, 5_000)?,
         "abcdefghij  ",
         &[row(0, 12, end, 5_000, 13)],
     )?;
     sets(
         &rt,
         heap,
-        &mut cells,
-        &Spaces,
-        499,
+        cells(Spaces, 499)?,
         "ab",
         &[row(0, 1, cut, 500, 2), row(1, 2, end, 500, 3)],
     )?;
     sets(
         &rt,
         heap,
-        &mut cells,
-        &Spaces,
-        5_000,
+        cells(Spaces, 5_000)?,
         "\n",
         &[row(0, 0, Ending::Newline, 0, 1), row(1, 1, end, 0, 2)],
     )?;
     sets(
         &rt,
         heap,
-        &mut cells,
-        &Spaces,
-        5_000,
+        cells(Spaces, 5_000)?,
         "the red ink",
         &[row(0, 8, wrapped, 3_500, 11), row(8, 11, end, 1_500, 12)],
     )?;
     sets(
         &rt,
         heap,
-        &mut cells,
-        &Anywhere,
-        5_000,
+        cells(Anywhere, 5_000)?,
         "the red ink",
         &[row(0, 10, wrapped, 5_000, 11), row(10, 11, end, 500, 12)],
     )
@@ -145,13 +131,11 @@ fn kerned_label(rt: HostRuntime) -> Result<(), Fail> {
         kern: -1_200,
     }];
     let font = Font::new(heap, &glyphs, &kerns)?;
-    let mut measurer = pile(font, Cells::new(500)?, TrackingUnits::new(0)?);
+    let measurer = pile(font, Cells::new(500)?, TrackingUnits::new(0)?);
     sets(
         &rt,
         heap,
-        &mut measurer,
-        &Spaces,
-        1_000,
+        Setter::new(measurer, Spaces, Measure::new(1_000)?),
         "a bcc",
         &[
             row(0, 2, Ending::Wrapped, 600, 5),

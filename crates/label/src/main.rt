@@ -4,7 +4,7 @@
 use fonts::pile::pile;
 use layers::tracking::TrackingUnits;
 use layout::edges::write_edges;
-use layout::setting::set_text;
+use layout::setter::Setter;
 use metrics::cells::Cells;
 use metrics::measurer::Measurer;
 use page::measure::Measure;
@@ -45,33 +45,31 @@ fn drawn_row<M: Measurer>(
     heap: Global,
     text: &Text,
     row: &Row,
-    measurer: &mut M,
-    policy: Breaks,
-    measure: Measure,
+    setter: &mut Setter<M, Breaks>,
     column: Column,
 ) -> Result<String, AllocError> {
     let mut edges = [0; MAX_CHARACTERS];
-    write_edges(text, measurer, row.start, row.end, &mut edges);
-    let chars = unhung(&policy, text.part(row.start, row.end));
-    framed_row(heap, column, measure, chars, &edges)
+    write_edges(text, &mut setter.measurer, row.start, row.end, &mut edges);
+    let chars = unhung(&setter.policy, text.part(row.start, row.end));
+    framed_row(heap, column, setter.measure, chars, &edges)
 }
 
-fn show<M: Measurer>(
+fn show<M: Measurer + Drop>(
     rt: &HostRuntime,
     text: &Text,
-    measurer: &mut M,
-    policy: Breaks,
-    measure: Measure,
+    setter: Setter<M, Breaks>,
     column: Column,
 ) -> Result<(), Stop> {
     let heap = rt.alloc();
-    let rows = set_text(heap, text, measurer, &policy, measure)?;
+    let mut setter = setter;
+    let rows = setter.set_text(heap, text)?;
     let rows = rows.as_slice();
     list(rt, text, rows)?;
-    let drawn = rows.iter().map(|row| drawn_row(
-        heap, text, row, measurer, policy, measure, column,
-    ));
-    print_framed(rt, column.count(measure), drawn)?;
+    let columns = column.count(setter.measure);
+    let drawn = rows
+        .iter()
+        .map(|row| drawn_row(heap, text, row, &mut setter, column));
+    print_framed(rt, columns, drawn)?;
     Ok(())
 }
 
@@ -88,14 +86,19 @@ fn run(rt: &HostRuntime) -> Result<(), Stop> {
     } = options;
     let measure = Measure::new(measure)?;
     let units = TrackingUnits::new(tracking)?;
-    let mut cells = Cells::new(500)?;
+    let cells = Cells::new(500)?;
     let Some(path) = font else {
         let text = Text::new(input(rt, MAX_CHARACTERS)?)?;
-        return show(rt, &text, &mut cells, breaks, measure, Column::Cell);
+        return show(rt, &text, Setter::new(cells, breaks, measure), Column::Cell);
     };
-    let mut measurer = pile(font_file::load(rt, path.as_str())?, cells, units);
+    let measurer = pile(font_file::load(rt, path.as_str())?, cells, units);
     let text = Text::new(input(rt, MAX_CHARACTERS)?)?;
-    show(rt, &text, &mut measurer, breaks, measure, Column::HalfCell)
+    show(
+        rt,
+        &text,
+        Setter::new(measurer, breaks, measure),
+        Column::HalfCell,
+    )
 }
 
 fn main(rt: HostRuntime) -> ExitCode {

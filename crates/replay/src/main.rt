@@ -3,6 +3,7 @@
 
 use fonts::pile::pile;
 use layers::tracking::TrackingUnits;
+use layout::setter::Setter;
 use listing::writer::ListWriter;
 use metrics::cells::Cells;
 use metrics::measurer::Measurer;
@@ -31,17 +32,12 @@ them a font over cells of 500, and TRACKING, -500 to 500, between characters.";
 // How many bytes a list may have.
 const ROOM: usize = 60_000;
 
-fn list<M: Measurer + Drop>(
-    rt: &HostRuntime,
-    measurer: M,
-    policy: Breaks,
-    measure: Measure,
-) -> Result<(), Stop> {
+fn list<M: Measurer + Drop>(rt: &HostRuntime, setter: Setter<M, Breaks>) -> Result<(), Stop> {
     let heap = rt.alloc();
     let script = input(rt, MAX_SCRIPT)?;
     let mut buffer = vec![in heap; 0; ROOM]?;
     let mut list = ListWriter::new(&mut buffer);
-    let ended = replay(heap, measurer, policy, measure, &script, &mut list);
+    let ended = replay(heap, setter, &script, &mut list);
     rt.stdout().write_all(list.written())?;
     Ok(ended?)
 }
@@ -61,10 +57,10 @@ fn show(rt: &HostRuntime) -> Result<(), Stop> {
     let units = TrackingUnits::new(tracking)?;
     let cells = Cells::new(500)?;
     let Some(path) = font else {
-        return list(rt, cells, breaks, measure);
+        return list(rt, Setter::new(cells, breaks, measure));
     };
     let font = font_file::load(rt, path.as_str())?;
-    list(rt, pile(font, cells, units), breaks, measure)
+    list(rt, Setter::new(pile(font, cells, units), breaks, measure))
 }
 
 fn main(rt: HostRuntime) -> ExitCode {

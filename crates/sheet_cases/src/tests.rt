@@ -3,6 +3,7 @@ use crate::settled;
 use fonts::font::Font;
 use fonts::pile::pile;
 use layers::tracking::TrackingUnits;
+use layout::setter::Setter;
 use metrics::cells::Cells;
 use metrics::entry::{Glyph, KernPair};
 use metrics::measurer::Measurer;
@@ -65,7 +66,7 @@ fn kern_that_pulls_rows_together(rt: HostRuntime) -> Result<(), Fail> {
     }];
     let font = Font::new(heap, &glyphs, &kerns)?;
     let measurer = pile(font, Cells::new(500)?, TrackingUnits::new(0)?);
-    let mut sheet = Sheet::new(heap, measurer, Spaces, Measure::new(1_000)?)?;
+    let mut sheet = Sheet::new(heap, Setter::new(measurer, Spaces, Measure::new(1_000)?))?;
     replaces(&rt, &mut sheet, 0, 0, b"a bcc", record(0, 1, 3, 3))?;
     replaces(&rt, &mut sheet, 4, 1, b"", record(0, 3, 1, 1))?;
     let mut buffer = [0u8; 8];
@@ -87,7 +88,10 @@ fn kern_that_pulls_rows_together(rt: HostRuntime) -> Result<(), Fail> {
 #[test]
 fn edits_of_cells(rt: HostRuntime) -> Result<(), Fail> {
     let heap = rt.alloc();
-    let mut sheet = Sheet::new(heap, Cells::new(500)?, Spaces, Measure::new(5_000)?)?;
+    let mut sheet = Sheet::new(
+        heap,
+        Setter::new(Cells::new(500)?, Spaces, Measure::new(5_000)?),
+    )?;
     replaces(&rt, &mut sheet, 0, 0, b"the red ink", record(0, 1, 2, 2))?;
     let slip = sheet.remeasure(Measure::new(4_000)?)?;
     let whole = Repaint {
@@ -124,7 +128,10 @@ fn refusal<M: Measurer, P: Policy>(
 #[test]
 fn limits(rt: HostRuntime) -> Result<(), Fail> {
     let heap = rt.alloc();
-    let mut sheet = Sheet::new(heap, Cells::new(500)?, Spaces, Measure::new(5_000)?)?;
+    let mut sheet = Sheet::new(
+        heap,
+        Setter::new(Cells::new(500)?, Spaces, Measure::new(5_000)?),
+    )?;
     let newlines = [b'\n'; 1_024];
     assert!(rt;
         matches!(

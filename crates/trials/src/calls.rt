@@ -1,5 +1,6 @@
 // Calls on a sheet that are not settled straight after.
 use crate::stop::Stop;
+use layout::setter::Setter;
 use metrics::cells::Cells;
 use metrics::measurer::Measurer;
 use page::measure::Measure;
@@ -101,21 +102,17 @@ fn print_fault(rt: &HostRuntime, number: u64, fault: CommandFault) -> io::Result
 
 pub fn print_calls<M: Measurer + Drop>(
     rt: &HostRuntime,
-    measurer: M,
-    policy: Breaks,
-    measure: Measure,
+    setter: Setter<M, Breaks>,
     room: usize,
     calls: &[u8],
 ) -> Result<(), Stop> {
     let heap = rt.alloc();
-    let mut sheet = Sheet::new(heap, measurer, policy, measure)?;
-    let mut bank = Sheet::new(heap, Cells::new(500)?, Spaces, measure)?;
+    let cells = Setter::new(Cells::new(500)?, Spaces, setter.measure);
+    let mut bank = Sheet::new(heap, cells)?;
+    let mut sheet = Sheet::new(heap, setter)?;
     let mut text = [0; MAX_CHARACTERS];
     let mut buffer = vec![in heap; 0; room]?;
-    let mut lines = Lines::new(calls);
-    let mut number: u64 = 0;
-    'lines: while let Some(line) = lines.next() {
-        number = number.wrapping_add(1);
+    for (number, line) in (1..u64::MAX).zip(Lines::new(calls)) {
         let rows = sheet.row_count();
         match call(line, &mut sheet, &mut bank, &mut text, &mut buffer) {
             Ok(Answer::Accepted) => {

@@ -3,6 +3,7 @@
 
 use fonts::pile::pile;
 use layers::tracking::TrackingUnits;
+use layout::setter::Setter;
 use metrics::cells::Cells;
 use metrics::measurer::Measurer;
 use page::measure::Measure;
@@ -57,13 +58,13 @@ fn tell(rt: &HostRuntime, effort: Effort) -> io::Result<()> {
 fn show<M: Measurer + Drop>(
     rt: &HostRuntime,
     text: &[u8],
-    measurer: M,
-    policy: Breaks,
-    measure: Measure,
+    setter: Setter<M, Breaks>,
     column: Column,
 ) -> Result<(), Stop> {
     let heap = rt.alloc();
-    let mut sheet = Sheet::new(heap, measurer, policy, measure)?;
+    let policy = setter.policy;
+    let measure = setter.measure;
+    let mut sheet = Sheet::new(heap, setter)?;
     let mut screen = Screen::new(heap)?;
     let effort = type_text(&mut sheet, &mut screen, text)?;
     list(rt, &sheet)?;
@@ -92,11 +93,16 @@ fn run(rt: &HostRuntime) -> Result<(), Stop> {
     let cells = Cells::new(500)?;
     let Some(path) = font else {
         let text = input(rt, MAX_CHARACTERS)?;
-        return show(rt, &text, cells, breaks, measure, Column::Cell);
+        return show(rt, &text, Setter::new(cells, breaks, measure), Column::Cell);
     };
     let measurer = pile(font_file::load(rt, path.as_str())?, cells, units);
     let text = input(rt, MAX_CHARACTERS)?;
-    show(rt, &text, measurer, breaks, measure, Column::HalfCell)
+    show(
+        rt,
+        &text,
+        Setter::new(measurer, breaks, measure),
+        Column::HalfCell,
+    )
 }
 
 fn main(rt: HostRuntime) -> ExitCode {
