@@ -30,6 +30,6 @@ fn a_full_list_stays_as_it_was(rt: HostRuntime) -> Result<(), Fail> {
     list.push(8)?;
     assert_eq!(rt; list.push(9), Err(Full));
     assert_eq!(rt; list.len(), 2);
-    assert!(rt; list.as_slice() == [7, 8].as_slice());
+    assert_eq!(rt; list.as_slice(), [7, 8].as_slice());
     Ok(())
 }

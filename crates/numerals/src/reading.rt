@@ -9,7 +9,7 @@ pub fn magnitude(text: &[u8]) -> Option<u32>
     ensures value { result ≡ magnitude text.now }
     ensures bound { IfSome result (λ n. n < 100000) }
 {
-    if text.is_empty() || text.len() > MOST_DIGITS {
+    if !(1..=MOST_DIGITS).contains(&text.len()) {
         return None;
     }
     let mut value = 0;

@@ -22,7 +22,7 @@ impl<'a, T: Copy> BoundedList<'a, T> {
     pub fn as_slice(&self) -> &[T]
         ensures { result.now ≡ entries (holding self.now) }
     {
-        &self.slots[0..self.used]
+        &self.slots[..self.used]
     }
 
     // Refused only when all slots are used; the list is then as it was.
@@ -31,6 +31,7 @@ impl<'a, T: Copy> BoundedList<'a, T> {
         ensures after { holding self.new ≡ pushed (holding self.old) entry }
         ensures answer { result ≡ push_answer (holding self.old) }
     {
+        // no `get_mut`: nothing is proved of the elements of a slice that is written through it
         if self.used == self.slots.len() {
             return Err(Full);
         }

@@ -12,6 +12,7 @@ impl Decimal {
         let mut digits = [b'0'; 20];
         let mut start = 20;
         let mut rest = n;
+        // a place by hand: nothing is proved of what is written through `iter_mut().rev()`
         'digit: loop {
             start -= 1;
             digits[start] = b'0' + (rest % 10) as u8;
