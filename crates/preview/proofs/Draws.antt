@@ -1,11 +1,10 @@
 -- A row drawn character by character.
-use Rattle.std.proofs.Common.{◌≡◌, ℕ, ◌+◌, ◌-◌, ◌<◌, ◌≤◌, List, [], ◌++◌, length, get_or, drop, Some, None, codes, Option, unwrap_or, sym, refl, ap, ◌∙◌, add-zero, add-one, arith, Bor}
+use Rattle.std.proofs.Common.{◌≡◌, ℕ, ◌+◌, ◌-◌, ◌<◌, ◌≤◌, List, [], ◌∷◌, ◌++◌, length, get_or, drop, Some, None, codes, Option, unwrap_or, sym, refl, ap, ◌∙◌, add-zero, add-one, arith, Bor}
 use lib.Utf8.{encode}
-use Rattle.std.proofs.lemmas.List.{append_assoc, drop_more, drop_all, drop-drop, get_or-drop, get_or_past, get_or_read, length-append, length-replicate}
+use Rattle.std.proofs.lemmas.List.{append_assoc, drop_more, drop_all, drop-drop, get_or-drop, get_or_past, length-append, length-drop, length-replicate}
 use Rattle.std.proofs.lemmas.Bool.{lt-ltb, le-ltb}
 use Rattle.std.proofs.lemmas.Str.{length-encode, len_utf8_bounds}
-use Rattle.std.specs.Option.{option_map}
-use Rattle.std.specs.Slice.{IsGetResult}
+use Rattle.std.specs.Option.{option_map, MatchOption}
 use Rattle.preview.specs.Drawings.{spaces, place, drawn, begins_of, mark}
 
 drawn_more : (u n used : ℕ) (cs begins : List ℕ) (i : ℕ) → i < length cs → drawn u n used (drop i cs) (drop i begins) ≡ spaces (place u used (get_or begins i 0) - used) ++ (encode (get_or cs i 0) ++ drawn u n (place u used (get_or begins i 0) + 1) (drop (i + 1) cs) (drop (i + 1) begins))
@@ -40,10 +39,16 @@ draw_longer used at c line h =
 pub begins_more : (edges : List ℕ) (i : ℕ) → get_or (begins_of edges) (i + 1) 0 ≡ get_or edges i 0
 begins_more edges i = rw (add-one i) refl
 
--- what `get` of a slice finds, or 0
-pub item_or_none : (edges : List ℕ) (i : ℕ) (r : Option (Bor ℕ)) → IsGetResult edges i i r → unwrap_or (option_map (λ x. x.now) r) 0 ≡ get_or edges i 0
-item_or_none edges i None h = sym (get_or_past edges i 0 h.3)
-item_or_none edges i (Some x) h = get_or_read edges i x.now h.3.0 h.1 0
+-- what the next call gives of the edges from i on, or 0, and what it leaves
+pub next_edge : {S : Type 0} (rest : S → List ℕ) (edges : List ℕ) (i : ℕ) (s t : S) (r : Option (Bor ℕ)) → rest s ≡ drop i edges → MatchOption r ((length (rest s) ≡ 0) × (t ≡ s)) (λ x. rest s ≡ x.now ∷ rest t) → (unwrap_or (option_map (λ x. x.now) r) 0 ≡ get_or edges i 0) × (rest t ≡ drop (i + 1) edges)
+next_edge rest edges i s t None e h =
+    let past : length edges ≤ i = omega (arith, h.0, ap length e, length-drop i edges) in
+    (sym (get_or_past edges i 0 past), ap rest h.1 ∙ e ∙ drop_all i edges past ∙ sym (drop_all (i + 1) edges (omega arith)))
+next_edge rest edges i s t (Some x) e h =
+    let first = sym h ∙ e in (
+      ap (λ (l : List ℕ). get_or l 0 0) first ∙ get_or-drop i edges 0 0 ∙ ap (λ (k : ℕ). get_or edges k 0) (add-zero i),
+      ap (drop 1) first ∙ drop-drop 1 i edges,
+    )
 
 pub mark_wider : (measure edge : ℕ) → measure < edge → mark measure edge ≡ codes " < wider than the label"
 mark_wider measure edge h = rw (lt-ltb measure edge h) refl

@@ -1,8 +1,9 @@
 // The label as the customer sees it, drawn in columns of a terminal.
-ghost use Rattle.std.specs.Prelude.{◌≡◌, ◌<◌, ◌++◌, IfOk, string_bytes, OnOk};
+ghost use Rattle.std.specs.Prelude.{◌≡◌, ◌<◌, IfOk, string_bytes};
 ghost use Rattle.layout.specs.Widths.{trimmed};
-ghost use Rattle.preview.specs.Drawings.{column_units, columns, framed, spaces};
+ghost use Rattle.preview.specs.Drawings.{column_units, columns, framed};
 
+use crate::lines::push_times;
 use page::measure::Measure;
 use page::policy::Policy;
 use std::alloc::{AllocError, Global};
@@ -39,11 +40,13 @@ impl Column {
 pub fn unhung<'a, P: Policy>(policy: &P, chars: &'a [u8]) -> &'a [u8]
     ensures { result.now ≡ trimmed (P.rules policy.now) chars.now }
 {
-    let mut end = chars.len();
-    'trim: while end > 0 && policy.hangs(chars[end - 1]) {
-        end -= 1;
+    let mut kept = chars;
+    'trim: while let [rest @ .., last] = kept
+        && policy.hangs(*last)
+    {
+        kept = rest;
     }
-    &chars[0..end]
+    kept
 }
 
 // A row inside the frame: each character stands in the column where its advance begins, or in the
@@ -58,29 +61,20 @@ pub fn framed_row(
     ensures { IfOk result (λ s. string_bytes s ≡ framed column measure.units chars.now edges.now) }
 {
     let mut line = String::from_str(heap, "|")?;
+    let mut edges_left = edges.iter();
     let mut edge: u32 = 0;
     let mut used: usize = 0;
-    for (i, c) in chars.iter().enumerate() {
+    for c in chars {
         let place = used.max(edge as usize / column.units());
-        pad(&mut line, place - used)?;
+        push_times(&mut line, ' ', place - used)?;
         line.push(char::from(*c))?;
         used = place + 1;
-        edge = edges.get(i).copied().unwrap_or(0);
+        edge = edges_left.next().copied().unwrap_or(0);
     }
-    pad(&mut line, column.count(measure).saturating_sub(used))?;
+    push_times(&mut line, ' ', column.count(measure).saturating_sub(used))?;
     line.push('|')?;
     if edge > measure.units() {
         line.push_str(" < wider than the label")?;
     }
     Ok(line)
-}
-
-// Adds spaces.
-fn pad(line: &mut String, count: usize) -> Result<(), AllocError>
-    ensures { OnOk result (string_bytes line.new ≡ string_bytes line.old ++ spaces count) }
-{
-    for _ in 0..count {
-        line.push(' ')?;
-    }
-    Ok(())
 }

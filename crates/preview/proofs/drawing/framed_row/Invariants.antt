@@ -3,11 +3,14 @@ use Rattle.preview.specs.Drawings.{column_units, columns, drawn, begins_of}
 use Rattle.preview.proofs.drawing.framed_row.Given as goal
 
 -- what is left to draw, behind the line so far, makes the whole
-abbrev pub invariant-loop-i : goal.invariant-loop-i
-invariant-loop-i l =
+abbrev pub invariant-loop-c : goal.invariant-loop-c
+invariant-loop-c l =
     let u = column_units l.column in
     let n = columns u l.measure.units in
     let begins = begins_of l.edges in
-    (string_bytes l.line ++ drawn u n l.used (drop l.i l.chars) (drop l.i begins) ≡ 124 ∷ drawn u n 0 l.chars begins)
-    × (l.edge ≡ get_or begins l.i 0)
-    × (l.used < string_len l.line)
+    record {
+      whole : string_bytes l.line ++ drawn u n l.used (drop l.c-index l.chars) (drop l.c-index begins) ≡ 124 ∷ drawn u n 0 l.chars begins;
+      left : l.edges_left.rest.now ≡ drop l.c-index l.edges;
+      begins : l.edge ≡ get_or begins l.c-index 0;
+      room : l.used < string_len l.line;
+    }
