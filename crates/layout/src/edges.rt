@@ -22,6 +22,7 @@ pub fn write_edges<T: Characters, M: Measurer>(
     let count = end.min(text.len()).saturating_sub(start).min(edges.len());
     let mut before = None;
     let mut edge = 0;
+    // by place, since nothing is known of a slice after an adapter over its `iter_mut`
     'turn: for i in 0..count {
         let c = text.get(start + i).unwrap_or(0);
         edge += u32::from(measurer.advance(before, c).unwrap_or(0));

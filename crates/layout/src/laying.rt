@@ -6,8 +6,9 @@ ghost use Rattle.layout.specs.Theorems.{LayoutLaws};
 ghost use Rattle.layout.specs.declared.laying.LayFault.TheVariants.{NoGlyph, TooManyRows};
 
 use crate::cover::Uncovered;
-use crate::row_list::{Full, MAX_ROWS, RowList};
+use crate::row_list::{MAX_ROWS, RowList};
 use crate::setter::Setter;
+use lists::full::Full;
 use metrics::measurer::Measurer;
 use page::policy::Policy;
 use page::text::Characters;

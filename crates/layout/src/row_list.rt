@@ -1,6 +1,7 @@
 // A list with room for every row that a layout may have.
 ghost use Rattle.std.specs.Prelude.{◌≡◌, ◌<◌, ◌≤◌, [], ◌∷◌, ◌++◌, IfOk, vec_len, vec_capacity, MatchResult};
 
+use lists::full::Full;
 use page::row::Row;
 use std::alloc::{AllocError, Global};
 
@@ -14,10 +15,6 @@ pub struct RowList {
     ghost few: { vec_len rows ≤ 1024 },
     ghost room: { 1024 ≤ vec_capacity rows },
 }
-
-// All 1,024 places are taken.
-#[derive(Clone, Copy)]
-pub struct Full;
 
 impl RowList {
     pub fn new(heap: Global) -> Result<RowList, AllocError>

@@ -1,5 +1,5 @@
-// What a list of lent slots refuses.
+// What a list with room for so many entries refuses.
 
-// All slots are used.
+// All places are taken.
 #[derive(Clone, Copy, Debug, PartialEq, Eq)]
 pub struct Full;

@@ -6,7 +6,8 @@ ghost use Rattle.reflow.specs.Repaints.{first_reaching};
 ghost use Rattle.std.specs.List.{AllByRecursion, AllZip};
 
 use crate::edit::Edit;
-use layout::row_list::{Full, RowList};
+use layout::row_list::RowList;
+use lists::full::Full;
 use page::row::Row;
 
 // The first old row that reads what the edit changes.

@@ -6,7 +6,7 @@ pub returns-in_default : goal.returns-in_default
 returns-in_default c = λ a b.
     let old = c.args.old.now in
     let j = c.seek-j.result in
-    unmet_between c.args.edit old c.args.start c.args.from j a b c.seek-j.ensures.passed (λ d among.
+    unmet_between c.args.edit old c.args.start c.args.from j a b (λ i d after. c.seek-j.ensures.passed i d (omega (arith, c.min.ensures))) (λ d among.
     let least = c.seek-j.ensures.stops d among in
     let read : (get_or old j d).start ≡ c.in-Some.row.now.start = search (rules, tests) in
     omega (arith, c.if-row-edit.false))
@@ -16,4 +16,4 @@ returns-in_default-2 c = λ a b.
     let old = c.args.old.now in
     let j = c.seek-j.result in
     let past : length old ≤ j = search (rules, tests) in
-    unmet_between c.args.edit old c.args.start c.args.from j a b c.seek-j.ensures.passed (λ d among. absurd (omega arith))
+    unmet_between c.args.edit old c.args.start c.args.from j a b (λ i d after. c.seek-j.ensures.passed i d (omega (arith, c.min.ensures))) (λ d among. absurd (omega arith))
