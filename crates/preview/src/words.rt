@@ -1,4 +1,7 @@
 // Refusals in words, each with its number and all that it tells.
+ghost use Rattle.std.specs.Prelude.{◌≡◌};
+ghost use Rattle.preview.specs.declared.words.Refusal.TheVariants.{Long, NoMeasure, Unset, Setting};
+
 use layout::laying::LayFault;
 use layout::setting::SetFault;
 use metrics::fault::OutOfRange;
@@ -11,13 +14,46 @@ use thiserror::Error;
 #[derive(Clone, Copy, Debug, Error)]
 pub enum Refusal {
     #[error("3: the text has more than 4096 characters")]
-    Long(#[from] TooLong),
+    Long(TooLong),
     #[error("6: a measure lies between 1 and 60000")]
-    NoMeasure(#[from] NoSuchMeasure),
+    NoMeasure(NoSuchMeasure),
     #[error(fmt = unset)]
-    Unset(#[from] SetFault),
+    Unset(SetFault),
     #[error(fmt = out_of_range)]
-    Setting(#[from] OutOfRange),
+    Setting(OutOfRange),
+}
+
+// By hand, since a derived `From` does not promise which refusal it makes.
+impl From<TooLong> for Refusal {
+    ghost from_gives = { λ e r. r ≡ Long e };
+
+    fn from(e: TooLong) -> Refusal {
+        Refusal::Long(e)
+    }
+}
+
+impl From<NoSuchMeasure> for Refusal {
+    ghost from_gives = { λ e r. r ≡ NoMeasure e };
+
+    fn from(e: NoSuchMeasure) -> Refusal {
+        Refusal::NoMeasure(e)
+    }
+}
+
+impl From<SetFault> for Refusal {
+    ghost from_gives = { λ e r. r ≡ Unset e };
+
+    fn from(e: SetFault) -> Refusal {
+        Refusal::Unset(e)
+    }
+}
+
+impl From<OutOfRange> for Refusal {
+    ghost from_gives = { λ e r. r ≡ Setting e };
+
+    fn from(e: OutOfRange) -> Refusal {
+        Refusal::Setting(e)
+    }
 }
 
 fn unset<W: fmt::Write>(fault: &SetFault, f: &mut fmt::Formatter<W>) -> fmt::Result {
