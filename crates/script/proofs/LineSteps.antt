@@ -8,7 +8,6 @@ use Rattle.script.specs.Lines.{onto, lines, Plain, Lined}
 use Rattle.script.specs.Lines.Lined.{over, ended, last}
 use Rattle.script.specs.Splits.{Split, longer, split_once}
 use Rattle.script.specs.Theorems.{LineLaws}
-use Rattle.script.proofs.Splitting.{split_joins}
 
 -- a last line, if it is not empty
 abbrev pub whole : List ℕ → List (List ℕ)
@@ -53,7 +52,7 @@ length-onto : (b : ℕ) (ls : List (List ℕ)) → length (onto b ls) ≤ suc (l
 length-onto b [] = omega arith
 length-onto b (l ∷ ls) = omega arith
 
-pub few : (xs : List ℕ) → length (lines xs) ≤ length xs
+few : (xs : List ℕ) → length (lines xs) ≤ length xs
 unfolding lines
 few [] = omega arith
 few (b ∷ bs) = go (eqb b newline) (few bs)
@@ -62,10 +61,9 @@ few (b ∷ bs) = go (eqb b newline) (few bs)
     go true h = omega arith
     go false h = omega (arith, length-onto b (lines bs))
 
-pub within : (xs line rest : List ℕ) → Some (record { before = line; behind = rest }) ≡ split_once newline xs → length line ≤ length xs
-within xs line rest e =
-    let joins = split_joins newline xs (record { before = line; behind = rest }) (sym e) in
-    rw joins (rw length-append (omega arith))
+first_within : {xs line : List ℕ} {ls : List (List ℕ)} → Lined xs (line ∷ ls) → length line ≤ length xs
+first_within (ended line rest ls p r) = simp length-append (omega arith)
+first_within (last b bs p) = omega arith
 
 -- ---- lines by their ends
 plain_none : Plain []
@@ -106,4 +104,9 @@ only_one (ended line rest ls p r) = ap (λ (ls : List (List ℕ)). line ∷ ls) 
 only_one (last b line p) = last_is b line p
 
 pub line_laws : LineLaws
-line_laws = record { by_ends = by_ends; only_one = λ script ls r. only_one r }
+line_laws = record {
+  by_ends = by_ends;
+  only_one = λ script ls r. only_one r;
+  few = few;
+  bound = λ script line ls e. first_within (subst (Lined script) e (by_ends script));
+}

@@ -1,5 +1,5 @@
 -- What holds of the lines of a script and of their commands.
-use Rattle.std.specs.Prelude.{◌≡◌, ℕ, List, Some}
+use Rattle.std.specs.Prelude.{◌≡◌, ℕ, ◌≤◌, List, ◌∷◌, length, Some}
 use Rattle.script.specs.Commands.{Command, Reads}
 use Rattle.script.specs.Lines.{lines, Lined}
 use Rattle.script.specs.Reading.{command}
@@ -17,3 +17,7 @@ pub record LineLaws : Type 0 where
   pub by_ends : (script : List ℕ) → Lined script (lines script)
   -- in one way only
   pub only_one : (script : List ℕ) (ls : List (List ℕ)) → Lined script ls → ls ≡ lines script
+  -- no script has more lines than bytes
+  pub few : (script : List ℕ) → length (lines script) ≤ length script
+  -- and none has a longer first line
+  pub bound : (script line : List ℕ) (ls : List (List ℕ)) → lines script ≡ line ∷ ls → length line ≤ length script

@@ -1,11 +1,8 @@
 // The lines of a script.
-ghost use Rattle.std.specs.Prelude.{◌≡◌, ◌≤◌, length, drop, IfSome, ⊤};
-ghost use Rattle.std.specs.Iterator.{YieldsFirstRef, item_count, MakesProgress};
+ghost use Rattle.std.specs.Prelude.{◌≡◌};
+ghost use Rattle.std.specs.Iterator.{YieldsFirstRef, item_count};
 ghost use Rattle.script.specs.Left.{lines_left};
-ghost use Rattle.script.specs.Lines.{lines};
 ghost use Rattle.script.specs.Theorems.{LineLaws};
-ghost use Rattle.std.specs.List.{slice_get};
-ghost use Rattle.std.specs.Option.{option_map};
 
 use crate::split::split_once;
 use page::text::NEWLINE;
@@ -33,14 +30,7 @@ impl<'s> Iterator for Lines<'s> {
     ghost remaining = { item_count lines_left };
 
     // The next line, without its newline.
-    fn next(&mut self) -> Option<&'s [u8]>
-        ensures steps { YieldsFirstRef lines_left self.old result self.new }
-        ensures goes { MakesProgress (λ _. ⊤) (item_count lines_left) self.old result self.new }
-        ensures value { option_map (λ x. x.now) result ≡ slice_get (lines self.old.rest.now) 0 }
-        ensures rest { lines self.new.rest.now ≡ drop 1 (lines self.old.rest.now) }
-        ensures bound { IfSome result (λ line. length line.now ≤ length self.old.rest.now) }
-        ensures few { length (lines self.old.rest.now) ≤ length self.old.rest.now }
-    {
+    fn next(&mut self) -> Option<&'s [u8]> {
         match split_once(self.rest, NEWLINE) {
             Some((line, rest)) => {
                 self.rest = rest;

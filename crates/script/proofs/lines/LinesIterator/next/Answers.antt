@@ -1,49 +1,24 @@
-use Rattle.std.proofs.Common.{◌≡◌, ℕ, List, [], ◌∷◌, drop, length, sym, ap, ◌∙◌, arith, eqb-true}
+use Rattle.std.proofs.Common.{◌≡◌, ℕ, List, [], ◌∷◌, length, sym, ap, ◌∙◌, arith, eqb-true}
 use borrow.Author.Tests.{eqb-false}
-use Rattle.std.specs.List.{slice_get}
 use Rattle.script.specs.Lines.{lines}
 use Rattle.std.proofs.lemmas.List.{nil_from_length}
-use Rattle.script.proofs.LineSteps.{at_newline, at_last, whole_some, lines_none, within, few}
+use Rattle.script.proofs.LineSteps.{at_newline, at_last, whole_some, lines_none}
 use Rattle.script.proofs.lines.LinesIterator.next.Goals as goal
 
 pub returns-in-Some : goal.returns-in-Some
 returns-in-Some c =
-    let xs = c.args.self.now.rest.now in
-    let here : lines xs ≡ c.in-Some.line.now ∷ lines c.in-Some.rest.now = at_newline xs _ _ c.in-Some.ensures in
+    let here : lines c.args.self.now.rest.now ≡ c.in-Some.line.now ∷ lines c.in-Some.rest.now = at_newline _ _ _ c.in-Some.ensures in
     let n = ap length here in
-    record {
-      steps = here;
-      goes = record { on = λ _. (tt, tt, omega arith); keeps = tt; rests = λ _. tt };
-      value = ap (λ (ls : List (List ℕ)). slice_get ls 0) (sym here);
-      rest = ap (drop 1) (sym here);
-      bound = within xs _ _ c.in-Some.ensures;
-      few = few xs;
-    }
+    record { steps = here; goes = record { on = λ _. (tt, tt, omega arith); keeps = tt; rests = λ _. tt } }
 
 pub returns-in-None : goal.returns-in-None
 returns-in-None c =
-    let xs = c.args.self.now.rest.now in
-    let none : lines xs ≡ [] = ap lines (nil_from_length _ (eqb-true _ _ (sym c.if-is_empty.ensures))) ∙ lines_none in
-    record {
-      steps = (none, none);
-      goes = record { on = λ _. tt; keeps = tt; rests = λ _. tt };
-      value = ap (λ (ls : List (List ℕ)). slice_get ls 0) (sym none);
-      rest = none ∙ ap (drop 1) (sym none);
-      bound = tt;
-      few = few xs;
-    }
+    let none : lines c.args.self.now.rest.now ≡ [] = ap lines (nil_from_length _ (eqb-true _ _ (sym c.if-is_empty.ensures))) ∙ lines_none in
+    record { steps = (none, none); goes = record { on = λ _. tt; keeps = tt; rests = λ _. tt } }
 
 pub returns-in-None-2 : goal.returns-in-None-2
 returns-in-None-2 c =
     let xs = c.args.self.now.rest.now in
-    let here : lines xs ≡ xs ∷ [] = at_last xs c.in-None-2.ensures ∙ whole_some xs (eqb-false _ _ (sym c.if-is_empty.ensures)) in
-    let last = here ∙ ap (λ (ls : List (List ℕ)). xs ∷ ls) (sym lines_none) in
-    let n = ap length last in
-    record {
-      steps = last;
-      goes = record { on = λ _. (tt, tt, omega arith); keeps = tt; rests = λ _. tt };
-      value = ap (λ (ls : List (List ℕ)). slice_get ls 0) (sym here);
-      rest = lines_none ∙ ap (drop 1) (sym here);
-      bound = omega arith;
-      few = few xs;
-    }
+    let here : lines xs ≡ xs ∷ lines [] = at_last xs c.in-None-2.ensures ∙ whole_some xs (eqb-false _ _ (sym c.if-is_empty.ensures)) ∙ ap (λ (ls : List (List ℕ)). xs ∷ ls) (sym lines_none) in
+    let n = ap length here in
+    record { steps = here; goes = record { on = λ _. (tt, tt, omega arith); keeps = tt; rests = λ _. tt } }
