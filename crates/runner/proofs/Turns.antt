@@ -1,13 +1,11 @@
 -- How a run goes on from line to line.
 use Rattle.std.proofs.Common.{◌≡◌, ℕ, ◌+◌, ◌≤◌, true, false, leb, List, [], ◌∷◌, ◌++◌, length, drop, is_err, Some, None, Ok, Err, Result, sym, refl, ap, ◌∙◌, subst, ap₂, ⊎_elim, arith}
-use Rattle.std.proofs.lemmas.List.{length-append}
 use Rattle.std.proofs.lemmas.Bool.{le-leb, cases_Bool, cond-true, cond-false}
 use Rattle.std.specs.List.{slice_get}
 use Rattle.listing.specs.Entries.{Outcome, outcome, added, entered}
 use Rattle.listing.specs.declared.room.NoRoom.{NoRoom}
 use Rattle.listing.specs.declared.word.Word.{Word}
-use Rattle.script.specs.Lines.{lines, Lined}
-use Rattle.script.specs.Lines.Lined.{over, ended, last}
+use Rattle.script.specs.Lines.{lines}
 use Rattle.sheet.specs.Clean.{Making, Clean}
 use Rattle.sheet.specs.Histories.{History, State, Follows, clean_after}
 use Rattle.runner.specs.Answers.{Took, Reaches, Ran}
@@ -15,12 +13,6 @@ use Rattle.runner.specs.Entries.{entry}
 use Rattle.runner.specs.Runs.{Run, line_step, run_lines, run_script, most_bytes}
 use Rattle.runner.specs.declared.fault.ListFull.{ListFull}
 use Rattle.runner.proofs.Taking.{further}
-
--- no script has more lines than bytes
-pub few_lines : {bytes : List ℕ} {ls : List (List ℕ)} → Lined bytes ls → length ls ≤ length bytes
-few_lines over = omega arith
-few_lines (ended line rest ls plain more) = let few = few_lines more in simp length-append (omega arith)
-few_lines (last b line plain) = omega arith
 
 -- a list by its first item
 pub first_is : {X : Type 0} (xs : List X) (x : X) → Some x ≡ slice_get xs 0 → xs ≡ x ∷ drop 1 xs

@@ -9,7 +9,7 @@ use Rattle.sheet.specs.Histories.{clean_after}
 use Rattle.sheet.specs.States.{state}
 use Rattle.runner.specs.Answers.{outcome_words}
 use Rattle.runner.specs.Runs.{run_lines}
-use Rattle.runner.proofs.Turns.{Going, few_lines, turn_again, turn_full, turn_over, of_lines}
+use Rattle.runner.proofs.Turns.{Going, turn_again, turn_full, turn_over, of_lines}
 use Rattle.runner.proofs.run.run.Goals as goal
 
 -- the lines of a script, none of which is read
@@ -22,7 +22,7 @@ module _ {l : Lines} {e e' : Enumerate Lines} (taken : e' ≡ e) (source : e.ite
 
 pub lines-init-derived : goal.lines-init-derived
 lines-init-derived g c =
-    let few = few_lines (c.new.ensures.laws.by_ends c.new.result.rest.now) in
+    let few = c.new.ensures.laws.few c.new.result.rest.now in
     let same = ap length c.new.ensures.start in
     let made = c.enumerate-before-items.ensures in
     let from = ap (λ (s : Lines). length (lines s.rest.now)) (whole c.into_iter-before-iterator.ensures.into_iter_gives made.source made.count) in
@@ -31,7 +31,7 @@ lines-init-derived g c =
 
 pub lines-init : goal.lines-init
 lines-init g c =
-    let few = few_lines (c.new.ensures.laws.by_ends c.new.result.rest.now) in
+    let few = c.new.ensures.laws.few c.new.result.rest.now in
     let same = ap length c.new.ensures.start in
     let made = c.enumerate-before-items.ensures in
     let from = ap (λ (s : Lines). length (lines s.rest.now)) (whole c.into_iter-before-iterator.ensures.into_iter_gives made.source made.count) in
