@@ -1,7 +1,9 @@
 // The options that the programs take, and what they read.
+ghost use Rattle.std.specs.Prelude.{◌≡◌, None, pos};
+ghost use Rattle.page.specs.declared.policy.Breaks.TheVariants as policy;
+
 use crate::stop::{Misuse, Stop};
 use page::policy::Breaks;
-use std::convert::TryFrom;
 use std::io::Read;
 use std::str::FromStr;
 use std::{env, io};
@@ -17,6 +19,8 @@ pub struct Options {
 
 // Cells at measure 5,000, with rows that end after spaces.
 impl Default for Options {
+    ghost is_default = { λ o. o ≡ record { measure = 5000; font = None; tracking = pos 0; breaks = policy.Spaces } };
+
     fn default() -> Options {
         Options {
             measure: 5_000,

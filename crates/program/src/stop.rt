@@ -81,6 +81,7 @@ pub fn ended(rt: &HostRuntime, program: &str, outcome: Result<(), Stop>) -> Exit
     ExitCode::FAILURE
 }
 
+// The derive converts only what a variant holds; what is two steps away is converted here.
 impl From<NoSuchPolicy> for Stop {
     fn from(_e: NoSuchPolicy) -> Stop {
         Stop::Usage(Misuse::Policy)
