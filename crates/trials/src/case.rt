@@ -2,7 +2,7 @@
 ghost use Rattle.std.specs.Prelude.{◌<◌, ◌≤◌, length, IfSome};
 ghost use Rattle.std.specs.Iterator.{at_most};
 
-use numerals::reading::magnitude;
+use numerals::reading::{integer, magnitude};
 use page::policy::Breaks;
 use script::split::split_once;
 use std::mem;
@@ -134,7 +134,7 @@ fn on_font<'a>(words: &mut Words, bytes: &'a [u8]) -> Option<(FontCase<'a>, &'a 
 {
     let glyphs = words.number()? as usize;
     let kerns = words.number()? as usize;
-    let tracking = words.signed()?;
+    let tracking = integer(words.next()?)?;
     let setting = words.setting()?;
     let (font, rest) = bytes.split_at_checked(words.number()? as usize)?;
     let (script, rest) = rest.split_at_checked(words.number()? as usize)?;
@@ -174,13 +174,6 @@ impl<'a> Words<'a> {
 
     fn number(&mut self) -> Option<u32> {
         magnitude(self.next()?)
-    }
-
-    fn signed(&mut self) -> Option<i32> {
-        match self.next()? {
-            [b'-', digits @ ..] => Some(-(magnitude(digits)? as i32)),
-            digits => Some(magnitude(digits)? as i32),
-        }
     }
 
     fn setting(&mut self) -> Option<Setting> {
