@@ -1,4 +1,3 @@
-mod Acts
 mod Runs
 mod Scans
 mod Turns

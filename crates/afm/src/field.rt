@@ -27,6 +27,7 @@ pub fn code_of(text: &[u8]) -> Option<Option<u8>>
     Some(u8::try_from(number_within(text, -1, 255)?).ok())
 }
 
+// One line each: over any number type they would still be needed, for their ranges.
 pub fn width_of(text: &[u8]) -> Option<u16>
     ensures { result ≡ width_of text.now }
 {

@@ -94,6 +94,7 @@ impl<'a> Reader<'a> {
 }
 
 impl<'a> Reader<'a> {
+    #[tactic(auto, unfolding(crate::specs::Steps::line_step))]
     pub(crate) fn take_line(
         &mut self,
         mut line: Line<'a>,
