@@ -8,6 +8,7 @@ use crate::part::{Line, Word};
 
 impl<'a> Line<'a> {
     // The next word, which is empty at the line's end.
+    #[tactic(auto, unfolding(crate::specs::Parts::first_word, crate::specs::Parts::past_word))]
     pub fn next_word(&mut self) -> Word<'a>
         ensures value { word result ≡ first_word (line self.old) }
         ensures after { line self.new ≡ past_word (line self.old) }

@@ -1,5 +1,0 @@
-use Rattle.std.proofs.lemmas.List.{take_rest}
-use Rattle.afm.proofs.reader.Reader.rest.Goals as goal
-
-pub returns : goal.returns
-returns c = simp take_rest
