@@ -1,4 +1,3 @@
 mod Runs
-mod Scans
 mod Turns
 mod Spelling

@@ -24,6 +24,7 @@ impl<'a> Reader<'a> {
         }
     }
 
+    #[tactic(auto, unfolding(crate::specs::Lines::first_line, crate::specs::Lines::past_line))]
     pub(crate) fn next_line(&mut self) -> Line<'a>
         requires { 0 < length (rest self.old).text }
         ensures value { part result ≡ first_line (rest self.old) }
