@@ -43,7 +43,7 @@ module _ (s : Guard) (b₀ : List ℕ) (p : Place) (same : s.place.now ≡ p) (w
 module _ (s : Guard) (b₀ done : List ℕ) (g : Guard) (b : List ℕ) (was : Stands s b₀ done g b) (g' : Guard) (b' more : List ℕ) (kept : Kept g g') (within : g'.place.now.at ≤ length b') where
   stands : (done' : List ℕ) → front g'.place.now b' ≡ front s.place.now b₀ ++ done' → Stands s b₀ done' g' b'
   stands done' e = record {
-    kept = (kept.0 ∙ was.kept.0, kept.1 ∙ was.kept.1, kept.2 ∙ was.kept.2);
+    kept = (kept.0 ∙ was.kept.0, kept.1 ∙ was.kept.1);
     within = within;
     behind = e;
   }

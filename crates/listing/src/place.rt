@@ -1,5 +1,6 @@
 // The place that a list is written up to, and the guard that keeps it while an entry is open.
-ghost use Rattle.std.specs.Prelude.{◌≡◌, ◌≤◌, true, false, length, if◌then◌else◌};
+ghost use Rattle.std.specs.Prelude.{◌≡◌, ◌≤◌, true, length, Some, None};
+ghost use Rattle.std.specs.Option.{unwrap_or};
 ghost use Rattle.listing.specs.Entries.{word_bytes, outcome, added, entered};
 ghost use Rattle.listing.specs.Places.{front, Kept};
 
@@ -36,20 +37,16 @@ impl Place {
 // Takes an entry that is not closed back to where it began.
 struct Guard<'a> {
     place: &'a mut Place,
-    start: usize,
-    closed: bool,
+    // where the open entry began
+    open: Option<usize>,
 }
 
 impl Drop for Guard<'_> {
     fn drop(self)
-        ensures { self.exit.0.now.at ≡ (if self.entry.closed then self.entry.place.now.at else self.entry.start) }
+        ensures { self.exit.0.now.at ≡ unwrap_or self.entry.open self.entry.place.now.at }
     {
-        let Guard {
-            place,
-            start,
-            closed,
-        } = self;
-        if !closed {
+        let Guard { place, open } = self;
+        if let Some(start) = open {
             place.at = start;
         }
     }
@@ -59,15 +56,10 @@ impl<'a> Guard<'a> {
     fn new(place: &'a mut Place) -> Guard<'a>
         ensures lender { result.place.ghost_name ≡ place.entry.ghost_name }
         ensures same { result.place.now ≡ place.old }
-        ensures start { result.start ≡ place.old.at }
-        ensures open { result.closed ≡ false }
+        ensures open { result.open ≡ Some place.old.at }
     {
-        let start = place.at;
-        Guard {
-            place,
-            start,
-            closed: false,
-        }
+        let open = Some(place.at);
+        Guard { place, open }
     }
 
     // All the bytes, or none of them where they do not fit.
@@ -103,8 +95,8 @@ impl<'a> Guard<'a> {
     fn close(&mut self)
         ensures lender { self.new.place.ghost_name ≡ self.old.place.ghost_name }
         ensures same { self.new.place.now ≡ self.old.place.now }
-        ensures closed { self.new.closed ≡ true }
+        ensures closed { self.new.open ≡ None }
     {
-        self.closed = true;
+        self.open = None;
     }
 }

@@ -13,7 +13,7 @@ returns c =
     let e = c.copy_from_slice.ensures.after in
     let long = length-take-le at b c.requires in
     record {
-      kept = (refl, refl, refl);
+      kept = (refl, refl);
       within = search rules;
       after =
           ap (λ (x : List ℕ). outcome x (Ok tt)) (take-put_mid at (at + k - at) b c.copy_from_slice.new.self (at + k) (omega (arith, ap length e)) c.requires ∙ ap (λ (x : List ℕ). take at b ++ x) e)
@@ -26,7 +26,7 @@ returns-then-bytes-buffer c =
     let b : List ℕ = c.args.buffer.now in
     let long = length-take-le at b c.requires in
     record {
-      kept = (refl, refl, refl);
+      kept = (refl, refl);
       within = c.requires;
       after = added_refused (length b) (take at b) c.args.bytes.now (omega arith);
     }

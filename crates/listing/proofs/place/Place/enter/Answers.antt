@@ -9,7 +9,7 @@ use Rattle.listing.proofs.place.Place.enter.Goals.{then-i-gt0+in_ok-put, else-i-
 
 pub loop-i-init : goal.loop-i-init
 loop-i-init c = record {
-  kept = (refl, refl, refl);
+  kept = (refl, refl);
   within = search rules;
   behind = sym (append-nil _);
 }
