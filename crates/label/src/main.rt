@@ -1,21 +1,17 @@
 // Sets a text, and shows its rows and the label.
 #![tactic(auto)]
 
-use fonts::pile::pile;
-use layers::tracking::TrackingUnits;
 use layout::edges::write_edges;
 use layout::setter::Setter;
-use metrics::cells::Cells;
 use metrics::measurer::Measurer;
-use page::measure::Measure;
 use page::policy::Breaks;
 use page::row::Row;
 use page::text::{MAX_CHARACTERS, Text};
 use preview::drawing::{Column, framed_row, unhung};
 use preview::lines::{row_line, spelt};
-use program::font_file;
 use program::frame::print_framed;
-use program::options::{Options, from_args, input};
+use program::options::{from_args, input};
+use program::setters::{Chosen, choose};
 use program::stop::{Stop, ended};
 use std::alloc::{AllocError, Global};
 use std::io;
@@ -78,27 +74,12 @@ fn run(rt: &HostRuntime) -> Result<(), Stop> {
         rt.println(USAGE)?;
         return Ok(());
     };
-    let Options {
-        measure,
-        font,
-        tracking,
-        breaks,
-    } = options;
-    let measure = Measure::new(measure)?;
-    let units = TrackingUnits::new(tracking)?;
-    let cells = Cells::new(500)?;
-    let Some(path) = font else {
-        let text = Text::new(input(rt, MAX_CHARACTERS)?)?;
-        return show(rt, &text, Setter::new(cells, breaks, measure), Column::Cell);
-    };
-    let measurer = pile(font_file::load(rt, path.as_str())?, cells, units);
+    let setter = choose(rt, options)?;
     let text = Text::new(input(rt, MAX_CHARACTERS)?)?;
-    show(
-        rt,
-        &text,
-        Setter::new(measurer, breaks, measure),
-        Column::HalfCell,
-    )
+    match setter {
+        Chosen::Cells(setter) => show(rt, &text, setter, Column::Cell),
+        Chosen::Font(setter) => show(rt, &text, setter, Column::HalfCell),
+    }
 }
 
 fn main(rt: HostRuntime) -> ExitCode {

@@ -9,4 +9,4 @@ front place buffer = take place.at buffer
 
 -- the guard is still that of the same place, and of the same entry
 abbrev pub Kept : Guard → Guard → Type 0
-Kept before after = (after.place.ghost_name ≡ before.place.ghost_name) × (after.open ≡ before.open)
+Kept before after = (after.place.ghost_name ≡ before.place.ghost_name) × (after.began ≡ before.began)

@@ -37,16 +37,16 @@ impl Place {
 // Takes an entry that is not closed back to where it began.
 struct Guard<'a> {
     place: &'a mut Place,
-    // where the open entry began
-    open: Option<usize>,
+    // where the entry began, as long as it is open
+    began: Option<usize>,
 }
 
 impl Drop for Guard<'_> {
     fn drop(self)
-        ensures { self.exit.0.now.at ≡ unwrap_or self.entry.open self.entry.place.now.at }
+        ensures { self.exit.0.now.at ≡ unwrap_or self.entry.began self.entry.place.now.at }
     {
-        let Guard { place, open } = self;
-        if let Some(start) = open {
+        let Guard { place, began } = self;
+        if let Some(start) = began {
             place.at = start;
         }
     }
@@ -56,10 +56,10 @@ impl<'a> Guard<'a> {
     fn new(place: &'a mut Place) -> Guard<'a>
         ensures lender { result.place.ghost_name ≡ place.entry.ghost_name }
         ensures same { result.place.now ≡ place.old }
-        ensures open { result.open ≡ Some place.old.at }
+        ensures open { result.began ≡ Some place.old.at }
     {
-        let open = Some(place.at);
-        Guard { place, open }
+        let began = Some(place.at);
+        Guard { place, began }
     }
 
     // All the bytes, or none of them where they do not fit.
@@ -95,8 +95,8 @@ impl<'a> Guard<'a> {
     fn close(&mut self)
         ensures lender { self.new.place.ghost_name ≡ self.old.place.ghost_name }
         ensures same { self.new.place.now ≡ self.old.place.now }
-        ensures closed { self.new.open ≡ None }
+        ensures closed { self.new.began ≡ None }
     {
-        self.open = None;
+        self.began = None;
     }
 }

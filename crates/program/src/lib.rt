@@ -4,4 +4,5 @@
 pub mod font_file;
 pub mod frame;
 pub mod options;
+pub mod setters;
 pub mod stop;

@@ -1,16 +1,12 @@
 // Runs a script on a sheet, and prints its list.
 #![tactic(auto)]
 
-use fonts::pile::pile;
-use layers::tracking::TrackingUnits;
 use layout::setter::Setter;
 use listing::writer::ListWriter;
-use metrics::cells::Cells;
 use metrics::measurer::Measurer;
-use page::measure::Measure;
 use page::policy::Breaks;
-use program::font_file;
-use program::options::{Options, all_or_none, input};
+use program::options::{all_or_none, input};
+use program::setters::{Chosen, choose};
 use program::stop::{Stop, ended};
 use runner::replay::replay;
 use runner::run::MAX_SCRIPT;
@@ -47,20 +43,10 @@ fn show(rt: &HostRuntime) -> Result<(), Stop> {
         rt.println(USAGE)?;
         return Ok(());
     };
-    let Options {
-        measure,
-        font,
-        tracking,
-        breaks,
-    } = options;
-    let measure = Measure::new(measure)?;
-    let units = TrackingUnits::new(tracking)?;
-    let cells = Cells::new(500)?;
-    let Some(path) = font else {
-        return list(rt, Setter::new(cells, breaks, measure));
-    };
-    let font = font_file::load(rt, path.as_str())?;
-    list(rt, Setter::new(pile(font, cells, units), breaks, measure))
+    match choose(rt, options)? {
+        Chosen::Cells(setter) => list(rt, setter),
+        Chosen::Font(setter) => list(rt, setter),
+    }
 }
 
 fn main(rt: HostRuntime) -> ExitCode {

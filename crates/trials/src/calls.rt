@@ -24,18 +24,10 @@ enum Answer {
     Shown(Row),
 }
 
-const NO_RECORD: Repaint = Repaint {
-    whole: false,
-    from: 0,
-    removed: 0,
-    put: 0,
-    broken: 0,
-};
-
 // A sheet that spends the slips of changes which stay owed, and gives one for each settle: settle
 // spends any sheet's slip.
 fn spend(bank: &mut Sheet<Cells, Spaces>, slip: Slip) {
-    let mut record = NO_RECORD;
+    let mut record = Repaint::default();
     let _ = bank.settle(slip, &mut record);
 }
 
@@ -47,7 +39,7 @@ fn call<M: Measurer>(
     buffer: &mut [u8],
 ) -> Result<Answer, CommandFault> {
     if line == b"P".as_slice() {
-        let mut record = NO_RECORD;
+        let mut record = Repaint::default();
         let slip = bank.refresh();
         sheet.settle(slip, &mut record)?;
         return Ok(Answer::Settled(record));

@@ -1,19 +1,15 @@
 // Types a text into a sheet, and shows its rows, what they cost, and the screen.
 #![tactic(auto)]
 
-use fonts::pile::pile;
-use layers::tracking::TrackingUnits;
 use layout::setter::Setter;
-use metrics::cells::Cells;
 use metrics::measurer::Measurer;
-use page::measure::Measure;
 use page::policy::{Breaks, Policy};
 use page::text::MAX_CHARACTERS;
 use preview::drawing::{Column, framed_row, unhung};
 use preview::lines::{row_line, spelt};
-use program::font_file;
 use program::frame::print_framed;
-use program::options::{Options, from_args, input};
+use program::options::{from_args, input};
+use program::setters::{Chosen, choose};
 use program::stop::{Stop, ended};
 use screen::screen::Screen;
 use sheet::sheet::Sheet;
@@ -82,27 +78,12 @@ fn run(rt: &HostRuntime) -> Result<(), Stop> {
         rt.println(USAGE)?;
         return Ok(());
     };
-    let Options {
-        measure,
-        font,
-        tracking,
-        breaks,
-    } = options;
-    let measure = Measure::new(measure)?;
-    let units = TrackingUnits::new(tracking)?;
-    let cells = Cells::new(500)?;
-    let Some(path) = font else {
-        let text = input(rt, MAX_CHARACTERS)?;
-        return show(rt, &text, Setter::new(cells, breaks, measure), Column::Cell);
-    };
-    let measurer = pile(font_file::load(rt, path.as_str())?, cells, units);
+    let setter = choose(rt, options)?;
     let text = input(rt, MAX_CHARACTERS)?;
-    show(
-        rt,
-        &text,
-        Setter::new(measurer, breaks, measure),
-        Column::HalfCell,
-    )
+    match setter {
+        Chosen::Cells(setter) => show(rt, &text, setter, Column::Cell),
+        Chosen::Font(setter) => show(rt, &text, setter, Column::HalfCell),
+    }
 }
 
 fn main(rt: HostRuntime) -> ExitCode {

@@ -11,5 +11,5 @@ returns-clause-passed c i d after before among =
     let old = c.args.old.now in
     let from = c.args.from in
     let at : get_or (take (length old - from) (drop from old)) (i - from) d ≡ get_or old i d =
-        ap (λ (rs : List Row). get_or rs (i - from) d) (take_rest old from) ∙ get_or-drop from old (i - from) d ∙ ap (λ (k : ℕ). get_or old k d) (omega arith) in
+    ap (λ (rs : List Row). get_or rs (i - from) d) (take_rest old from) ∙ get_or-drop from old (i - from) d ∙ ap (λ (k : ℕ). get_or old k d) (omega arith) in
     subst (λ (r : Row). r.start < c.args.place + c.args.del) at (c.passed.ensures.passed (i - from) d (omega arith) (omega (arith, length-drop from old, ap length (take_rest old from))))

@@ -1,0 +1,14 @@
+-- What the options of a program ask text to be set with.
+use Rattle.std.specs.Prelude.{◌≡◌, true, is_some, None}
+use Rattle.program.specs.declared.options.Options.{Options}
+use Rattle.program.specs.declared.setters.Chosen.{Chosen}
+use Rattle.program.specs.declared.setters.Chosen.TheVariants.{Cells, Font}
+
+-- cells of 500 where no font is named, else a font over such cells, tracked as asked; the policy and the measure as
+-- asked; and no row is broken yet
+abbrev pub AsAsked : Options → Chosen → Type 0
+AsAsked o (Cells s) =
+    (o.font ≡ None) × (s.measurer.size ≡ 500) × (s.policy ≡ o.breaks) × (s.measure.units ≡ o.measure) × (s.tally ≡ 0)
+AsAsked o (Font s) =
+    (is_some o.font ≡ true) × (s.measurer.below.below.second.size ≡ 500) × (s.measurer.below.units.value ≡ o.tracking)
+    × (s.policy ≡ o.breaks) × (s.measure.units ≡ o.measure) × (s.tally ≡ 0)
