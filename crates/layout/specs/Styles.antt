@@ -11,4 +11,4 @@ pub record Style : Type 0 where
 
 -- the style of a setter
 abbrev pub style : {M P : Type 0} → (M → Meaning) → (P → Rules) → Setter M P → Style
-style meaning rules s = record { meaning = meaning s.measurer; rules = rules s.policy; measure = s.measure.units }
+style meaning rules s = record { meaning = meaning s.measurer; rules = rules s.policy; measure = s.measure }

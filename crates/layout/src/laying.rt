@@ -43,10 +43,10 @@ impl<M: Measurer, P: Policy> Setter<M, P> {
     // to there.
     pub fn lay<T: Characters>(&mut self, text: &T, rows: &mut RowList) -> Result<(), LayFault>
         ensures kept { style M.meaning P.rules self.new ≡ style M.meaning P.rules self.old }
-        ensures value { result ≡ (laid (M.meaning self.old.measurer) (P.rules self.old.policy) self.old.measure.units (T.chars text.now)).answer }
-        ensures items { rows.new.rows.items ≡ (laid (M.meaning self.old.measurer) (P.rules self.old.policy) self.old.measure.units (T.chars text.now)).rows }
-        ensures laws { LayoutLaws (M.meaning self.old.measurer) (P.rules self.old.policy) self.old.measure.units }
-        ensures counted { self.new.tally ≡ (self.old.tally + broken_for (laid (M.meaning self.old.measurer) (P.rules self.old.policy) self.old.measure.units (T.chars text.now))) % 2 ^ 64 }
+        ensures value { result ≡ (laid (M.meaning self.old.measurer) (P.rules self.old.policy) self.old.measure (T.chars text.now)).answer }
+        ensures items { rows.new.rows.items ≡ (laid (M.meaning self.old.measurer) (P.rules self.old.policy) self.old.measure (T.chars text.now)).rows }
+        ensures laws { LayoutLaws (M.meaning self.old.measurer) (P.rules self.old.policy) self.old.measure }
+        ensures counted { self.new.tally ≡ (self.old.tally + broken_for (laid (M.meaning self.old.measurer) (P.rules self.old.policy) self.old.measure (T.chars text.now))) % 2 ^ 64 }
     {
         rows.clear();
         let mut start = 0;

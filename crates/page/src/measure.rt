@@ -1,13 +1,24 @@
 // The measure: the width that rows are set to.
-ghost use Rattle.std.specs.Prelude.{◌≡◌, ◌≤◌, MatchResult};
+ghost use Rattle.std.specs.Prelude.{◌≡◌, ℕ, MatchResult};
 ghost use Rattle.page.specs.Measures.{Measures};
+
+use std::marker::Model;
 
 // No measure exists outside 1 to 60,000, so that whoever is given one need not look.
 #[derive(Clone, Copy)]
 pub struct Measure {
     units: u32,
-    ghost least: { 1 ≤ units },
-    ghost most: { units ≤ 60000 },
+}
+
+// Clauses see the number of units.
+impl Model for Measure {
+    ghost Value = { ℕ };
+
+    ghost view = { λ m. m.units };
+
+    ghost invariant = { λ m. Measures m.units };
+
+    ghost inverse = { λ w. record { units = w } };
 }
 
 // A measure outside 1 to 60,000 was asked for.
@@ -24,7 +35,7 @@ impl NoSuchMeasure {
 
 impl Measure {
     pub fn new(units: u32) -> Result<Measure, NoSuchMeasure>
-        ensures { MatchResult result (λ m. Measures units × (m.units ≡ units)) (λ _. Measures units → ⊥) }
+        ensures { MatchResult result (λ m. Measures units × (m ≡ units)) (λ _. Measures units → ⊥) }
     {
         match units {
             1..=60_000 => Ok(Measure { units }),
@@ -33,7 +44,8 @@ impl Measure {
     }
 
     pub fn units(self) -> u32
-        ensures { result ≡ self.units }
+        ensures value { result ≡ self }
+        ensures range { Measures result }
     {
         self.units
     }

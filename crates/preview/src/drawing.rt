@@ -30,7 +30,7 @@ impl Column {
 
     // How many columns the measure takes, the last one perhaps in part.
     pub fn count(self, measure: Measure) -> usize
-        ensures { result ≡ columns (column_units self) measure.units }
+        ensures { result ≡ columns (column_units self) measure }
     {
         (measure.units() as usize).div_ceil(self.units())
     }
@@ -58,7 +58,7 @@ pub fn framed_row(
     chars: &[u8],
     edges: &[u32],
 ) -> Result<String, AllocError>
-    ensures { IfOk result (λ s. string_bytes s ≡ framed column measure.units chars.now edges.now) }
+    ensures { IfOk result (λ s. string_bytes s ≡ framed column measure chars.now edges.now) }
 {
     let mut line = String::from_str(heap, "|")?;
     let mut edges_left = edges.iter();

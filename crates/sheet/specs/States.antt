@@ -9,7 +9,7 @@ abbrev pub state : {M P : Type 0} → (M → Meaning) → (P → Rules) → Shee
 state meaning rules s = record {
   meaning = meaning s.setter.measurer;
   rules = rules s.setter.policy;
-  measure = s.setter.measure.units;
+  measure = s.setter.measure;
   text = s.text;
   rows = vec_items s.rows.rows;
   owed = s.owed;

@@ -60,7 +60,7 @@ impl<M: Measurer, P: Policy> Sheet<M, P> {
 
     // Sets the measure, and lays the whole text again.
     pub fn remeasure(&mut self, measure: Measure) -> Result<Slip, RemeasureFault>
-        ensures follows { Continues (state M.meaning P.rules self.old) (remeasure measure.units) (remeasure_answer result) (state M.meaning P.rules self.new) }
+        ensures follows { Continues (state M.meaning P.rules self.old) (remeasure measure) (remeasure_answer result) (state M.meaning P.rules self.new) }
         ensures counted { (k : Making) (h : History) → Follows k h (state M.meaning P.rules self.old) → OnOk result ((p : Record) → self.new.owed ≡ Some p → self.new.setter.tally ≡ (self.old.setter.tally + p.broken) % 2 ^ 64) }
         ensures early { IfErr result (λ e. EarlyMeasure e → self.new ≡ self.old) }
     {

@@ -8,7 +8,7 @@ use Rattle.preview.proofs.drawing.framed_row.Goals.{then-edge-units+in_ok-push_s
 pub loop-c-preserved : goal.loop-c-preserved
 loop-c-preserved c =
     let u = column_units c.args.column in
-    let n = columns u c.args.measure.units in
+    let n = columns u c.args.measure in
     let cs = c.args.chars.now in
     let edges = c.args.edges.now in
     let i = c.loop-c.c-index in
@@ -36,10 +36,10 @@ loop-c-preserved c =
     }
 
 -- the line with both bars
-closed : (c : goal.Joined-edge-units) → string_bytes c.push-2.new.self ≡ (124 ∷ drawn (column_units c.args.column) (columns (column_units c.args.column) c.args.measure.units) 0 c.args.chars.now (begins_of c.args.edges.now)) ++ 124 ∷ []
+closed : (c : goal.Joined-edge-units) → string_bytes c.push-2.new.self ≡ (124 ∷ drawn (column_units c.args.column) (columns (column_units c.args.column) c.args.measure) 0 c.args.chars.now (begins_of c.args.edges.now)) ++ 124 ∷ []
 closed c =
     let u = column_units c.args.column in
-    let n = columns u c.args.measure.units in
+    let n = columns u c.args.measure in
     let cs = c.args.chars.now in
     let begins = begins_of c.args.edges.now in
     let used = c.loop-c.used in
@@ -55,7 +55,7 @@ closed c =
 pub returns : goal.returns
 returns c =
     let u = column_units c.args.column in
-    let m = c.args.measure.units in
+    let m = c.args.measure in
     let cs = c.args.chars.now in
     let begins = begins_of c.args.edges.now in
     let all = drawn u (columns u m) 0 cs begins in
@@ -70,9 +70,9 @@ returns c =
           ∙ w.in_ok-push_str.ensures.bytes
           ∙ ap (λ (x : List ℕ). x ++ codes " < wider than the label") (closed c)
           ∙ append_assoc (124 ∷ all) (124 ∷ []) (codes " < wider than the label")
-          ∙ ap (λ (x : List ℕ). 124 ∷ (all ++ 124 ∷ x)) (sym (mark_wider m edge (omega (arith, last, w.if-edge-units.true, c.units-2.ensures))))
+          ∙ ap (λ (x : List ℕ). 124 ∷ (all ++ 124 ∷ x)) (sym (mark_wider m edge (omega (arith, last, w.if-edge-units.true, c.units-2.ensures.value))))
       | else-edge-units w ↦
           ap string_bytes w.line-is
           ∙ closed c
-          ∙ ap (λ (x : List ℕ). 124 ∷ (all ++ 124 ∷ x)) (sym (mark_none m edge (omega (arith, last, w.if-edge-units.false, c.units-2.ensures))))
+          ∙ ap (λ (x : List ℕ). 124 ∷ (all ++ 124 ∷ x)) (sym (mark_none m edge (omega (arith, last, w.if-edge-units.false, c.units-2.ensures.value))))
     ]

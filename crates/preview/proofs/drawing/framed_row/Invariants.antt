@@ -6,7 +6,7 @@ use Rattle.preview.proofs.drawing.framed_row.Given as goal
 abbrev pub invariant-loop-c : goal.invariant-loop-c
 invariant-loop-c l =
     let u = column_units l.column in
-    let n = columns u l.measure.units in
+    let n = columns u l.measure in
     let begins = begins_of l.edges in
     record {
       whole : string_bytes l.line ++ drawn u n l.used (drop l.c-index l.chars) (drop l.c-index begins) ≡ 124 ∷ drawn u n 0 l.chars begins;

@@ -46,9 +46,9 @@ returns-in_err-slip-in-Measure g c =
     let line = c.args.line.now in
     let told = c.in_err-slip-in-Measure.ensures in
     let made = c.in_ok-new-in-Measure.ensures in
-    let w = c.in_ok-new-in-Measure.field-0.units in
+    let w = c.in_ok-new-in-Measure.field-0 in
     let is = sym c.in_ok-at.ensures.value ∙ ap (λ (x : code.Command). Some (asked x)) c.in-Measure.is ∙ ap (λ (u : ℕ). Some (asked (Measure u))) (sym made.1) in
-    λ k h n f. rw (p.1, p.2) (refused_change k h s line n _ (remeasure w) (remeasure_told c.in_err-slip-in-Measure.field-0.0) (told.follows k h f) (measure_line k (clean_after k h) line w is (c.in_ok-new-in-Measure.field-0.least, c.in_ok-new-in-Measure.field-0.most)) refl)
+    λ k h n f. rw (p.1, p.2) (refused_change k h s line n _ (remeasure w) (remeasure_told c.in_err-slip-in-Measure.field-0.0) (told.follows k h f) (measure_line k (clean_after k h) line w is (rw made.1 made.0)) refl)
 
 pub returns-in_err-row-in-Show : goal.returns-in_err-row-in-Show
 returns-in_err-row-in-Show g c =
@@ -79,9 +79,9 @@ returns-in_ok-slip-in-Measure g c =
     let line = c.args.line.now in
     let told = c.in_ok-slip-in-Measure.ensures in
     let made = c.in_ok-new-in-Measure.ensures in
-    let w = c.in_ok-new-in-Measure.field-0.units in
+    let w = c.in_ok-new-in-Measure.field-0 in
     let is = sym c.in_ok-at.ensures.value ∙ ap (λ (x : code.Command). Some (asked x)) c.in-Measure.is ∙ ap (λ (u : ℕ). Some (asked (Measure u))) (sym made.1) in
-    λ k h n f. settled_change k h s line n _ (remeasure w) s₁ (told.follows k h f) (measure_line k (clean_after k h) line w is (c.in_ok-new-in-Measure.field-0.least, c.in_ok-new-in-Measure.field-0.most)) (c.settle-in-Measure.ensures k (event (remeasure w) accepted s₁ ∷ h) n (told.follows k h f))
+    λ k h n f. settled_change k h s line n _ (remeasure w) s₁ (told.follows k h f) (measure_line k (clean_after k h) line w is (rw made.1 made.0)) (c.settle-in-Measure.ensures k (event (remeasure w) accepted s₁ ∷ h) n (told.follows k h f))
 
 pub returns-in-Refresh : goal.returns-in-Refresh
 returns-in-Refresh g c =

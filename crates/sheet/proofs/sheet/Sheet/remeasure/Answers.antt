@@ -12,7 +12,7 @@ use Rattle.sheet.proofs.sheet.Sheet.remeasure.Goals as goal
 
 pub returns-then-is_some : goal.returns-then-is_some
 returns-then-is_some g c = record {
-  follows = λ k h f. refused_owed k h _ _ f c.args.measure.units (sym c.if-is_some.ensures) (as_it_was _);
+  follows = λ k h f. refused_owed k h _ _ f c.args.measure (sym c.if-is_some.ensures) (as_it_was _);
   counted = λ k h f. tt;
   early = λ _. refl;
 }
@@ -22,7 +22,7 @@ returns-then-is_err g c =
     let none = none_owed c.args.self.now.owed (sym c.is_some.ensures ∙ c.if-is_some.false) in
     let m = g.M.Measurer.meaning c.args.self.now.setter.measurer in
     let P = g.P.Policy.rules c.args.self.now.setter.policy in
-    let w = c.args.measure.units in
+    let w = c.args.measure in
     let t = c.args.self.now.text in
     record {
       follows = λ k h f.
@@ -39,7 +39,7 @@ returns g c =
     let none = none_owed c.args.self.now.owed (sym c.is_some.ensures ∙ c.if-is_some.false) in
     let m = g.M.Measurer.meaning c.args.self.now.setter.measurer in
     let P = g.P.Policy.rules c.args.self.now.setter.policy in
-    let w = c.args.measure.units in
+    let w = c.args.measure in
     let t = c.args.self.now.text in
     let fits : c.args.self.now.setter.tally < 2 ^ 64 = omega arith in
     let new-len : c.len-2.result ≡ length (vec_items c.swap.new.x.rows) = c.len-2.ensures ∙ c.swap.new.x.rows.ok.0 in
