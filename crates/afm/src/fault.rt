@@ -37,6 +37,7 @@ impl LineFault {
     }
 }
 
+// By hand, since contracts name the variant and a derived `From` has none.
 impl From<Full> for LineFault {
     ghost from_gives = { λ full fault. fault ≡ NoSlot full };
 

@@ -19,6 +19,7 @@ struct Held {
 }
 
 impl Held {
+    // by hand, since an equality of all fields would compare the advance too
     fn is_of(&self, before: Option<u8>, c: u8) -> bool
         ensures { Decides result ((self.now.before ≡ before) × (self.now.code ≡ c)) }
     {
@@ -26,7 +27,8 @@ impl Held {
     }
 }
 
-// The pairs held. Their slots are filled in turn, so that the oldest pair makes way.
+// The pairs held. Their slots are filled in turn, so that the oldest pair makes way; by hand, since the
+// library's ring takes the heap, and the making of a cache cannot fail.
 #[derive(Drop)]
 struct HeldPairs {
     slots: [Option<Held>; MAX_HELD],

@@ -22,6 +22,7 @@ pub enum LayFault {
     TooManyRows,
 }
 
+// By hand, since contracts name the variant and a derived `From` has none.
 impl From<Uncovered> for LayFault {
     ghost from_gives = { λ u r. r ≡ NoGlyph u };
 
@@ -43,6 +44,7 @@ impl<M: Measurer, P: Policy> Setter<M, P> {
     // to there.
     pub fn lay<T: Characters>(&mut self, text: &T, rows: &mut RowList) -> Result<(), LayFault>
         ensures kept { style M.meaning P.rules self.new ≡ style M.meaning P.rules self.old }
+        ensures policy { self.new.policy ≡ self.old.policy }
         ensures value { result ≡ (laid (M.meaning self.old.measurer) (P.rules self.old.policy) self.old.measure (T.chars text.now)).answer }
         ensures items { rows.new.rows.items ≡ (laid (M.meaning self.old.measurer) (P.rules self.old.policy) self.old.measure (T.chars text.now)).rows }
         ensures laws { LayoutLaws (M.meaning self.old.measurer) (P.rules self.old.policy) self.old.measure }

@@ -21,6 +21,7 @@ pub enum SetFault {
     Memory,
 }
 
+// By hand, since contracts name the variant and a derived `From` has none.
 impl From<Uncovered> for SetFault {
     ghost from_gives = { λ u r. r ≡ Refused (NoGlyph u) };
 
@@ -49,6 +50,7 @@ impl<M: Measurer, P: Policy> Setter<M, P> {
     // The rows of a text. A character without a glyph is refused before any row is laid.
     pub fn set_text(&mut self, heap: Global, text: &Text) -> Result<RowList, SetFault>
         ensures kept { style M.meaning P.rules self.new ≡ style M.meaning P.rules self.old }
+        ensures policy { self.new.policy ≡ self.old.policy }
         ensures value { MatchResult result (λ l. setting_of (M.meaning self.old.measurer) (P.rules self.old.policy) self.old.measure text.now.chars.items ≡ Ok l.rows.items) (RefusalOf (setting_of (M.meaning self.old.measurer) (P.rules self.old.policy) self.old.measure text.now.chars.items)) }
         ensures first_fit { MatchResult result (λ l. Accepted (M.meaning self.old.measurer) (P.rules self.old.policy) self.old.measure text.now.chars.items l.rows.items) (RightlyNotSet (M.meaning self.old.measurer) (P.rules self.old.policy) self.old.measure text.now.chars.items) }
     {

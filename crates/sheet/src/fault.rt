@@ -21,6 +21,7 @@ pub enum ReplaceFault {
     TooManyRows,
 }
 
+// By hand, since contracts name the variant and a derived `From` has none.
 impl From<Uncovered> for ReplaceFault {
     ghost from_gives = { λ u r. r ≡ NoGlyph u };
 

@@ -19,6 +19,7 @@ returns-in-Ok g c =
     let met = c.in-Ok.ensures in
     record {
       kept = inv.0;
+      policy = inv.5;
       within = omega (arith, met.among);
       counted = (inv.1, inv.2);
       met = λ new ch u. resumes_at k.meaning k.rules k.measure t c.args.edit c.args.old.now new (vec_items c.rows.rows.rows) c.rows.start (inv.3 new ch u) ch c.in-Ok.met met;
@@ -34,6 +35,7 @@ returns-in_err-row g c =
     let p = err_from_is_err_and c.from_residual.result c.from_residual.ensures.1 in
     record {
       kept = told.kept ∙ inv.0;
+      policy = told.policy ∙ inv.5;
       within = rw p.1 tt;
       counted = rw p.1 tt;
       met = λ new ch u. absurd (never_missing k k' t (min c.rows.start (length t)) c.in_err-row.field-0.0 inv.0 ch.covers told.value);
@@ -57,6 +59,7 @@ returns-in_default g c =
     let long : length more ≡ length done + 1 = ap length pushed ∙ length_push done r in
     record {
       kept = told.kept ∙ inv.0;
+      policy = told.policy ∙ inv.5;
       within = omega arith;
       counted = (omega arith, (λ f. counted_on c.args.setter.now.tally c.rows.setter.tally _ (length done - length first) (length more - length first) (inv.2 f) told.counted (omega arith)));
       met = λ new ch u.
@@ -116,6 +119,7 @@ rows-preserved g c =
           let few = told.few in
           let next : following r ≡ Some s' = sym (c.in-Some.ensures (omega (arith, at.ends))) in
           before_later old c.in-Err.next (start - e.ins + e.del) (s' - e.ins + e.del) (omega (arith, (at.on s' next).0)) unmet.passed),
+      told.policy ∙ inv.5,
     )
 
 pub returns : goal.returns
@@ -127,6 +131,7 @@ returns g c =
     let full : most_rows ≤ length done = let a = c.rows.rows.rows.ok.0 in omega (arith, c.rows-test.false, c.len.ensures) in
     record {
       kept = inv.0;
+      policy = inv.5;
       within = tt;
       counted = tt;
       met = λ new ch u. (refl, omega (arith, longer k.meaning k.rules k.measure t c.args.edit c.args.old.now new done c.rows.start (inv.3 new ch u)));

@@ -20,6 +20,7 @@ invariant-rows g l =
     → Underway k.meaning k.rules k.measure t l.edit l.old new done l.start)
     × ((new : List Row) → Changed k.meaning k.rules k.measure t l.edit l.old new → Underway k.meaning k.rules k.measure t l.edit l.old new first l.initial.start
     → Before l.old l.from (l.start - l.edit.ins + l.edit.del))
+    × (l.setter.policy ≡ l.initial.setter.policy)
 
 abbrev pub decreases-rows : goal.decreases-rows
 decreases-rows g l = most_rows - vec_len l.rows.rows

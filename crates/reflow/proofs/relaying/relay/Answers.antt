@@ -33,6 +33,7 @@ returns-in_err-carry g c =
     let p = err_from_is_err_and c.from_residual.result c.from_residual.ensures.1 in
     record {
       kept = refl;
+      policy = refl;
       laws = reflow_laws k.meaning k.rules k.measure;
       relaid = λ before ins q ed o.
           let b = begun k.meaning k.rules k.measure before ins c.args.edit ed t old q o in
@@ -51,6 +52,7 @@ returns-in_err-resumed g c =
     let p = err_from_is_err_and c.from_residual-in_err-resumed.result c.from_residual-in_err-resumed.ensures.1 in
     record {
       kept = told.kept;
+      policy = told.policy;
       laws = reflow_laws k.meaning k.rules k.measure;
       relaid = λ before ins q ed o.
           let b = begun k.meaning k.rules k.measure before ins e ed t old q o in
@@ -76,6 +78,7 @@ returns-in_err-resume g c =
     let p = err_from_is_err_and c.from_residual-in_err-resume.result c.from_residual-in_err-resume.ensures.1 in
     record {
       kept = laid.kept;
+      policy = laid.policy;
       laws = reflow_laws k.meaning k.rules k.measure;
       relaid = λ before ins q ed o.
           let b = begun k.meaning k.rules k.measure before ins e ed t old q o in
@@ -103,6 +106,7 @@ returns g c =
     let fits : c.args.setter.now.tally < 2 ^ 64 = omega arith in
     record {
       kept = laid.kept;
+      policy = laid.policy;
       laws = reflow_laws k.meaning k.rules k.measure;
       relaid = λ before ins q ed o.
           let new = rows_of k.meaning k.rules k.measure t in

@@ -14,6 +14,7 @@ invariant-scan g l =
     × (style g.M.Measurer.meaning g.P.Policy.rules l.self ≡ k)
     × (l.self.tally ≡ l.initial.self.tally)
     × (scan k.meaning k.rules k.measure l.scan (drop l.scan.place t) ≡ row_from k.meaning k.rules k.measure t s)
+    × (l.self.policy ≡ l.initial.self.policy)
 
 abbrev pub decreases-scan : goal.decreases-scan
 decreases-scan g l = length (g.T.Characters.chars l.text) - l.scan.place

@@ -15,6 +15,7 @@ invariant-rows g l =
     × (behind done (laid_from k.meaning k.rules k.measure t (most_rows - length done) l.start) ≡ laid k.meaning k.rules k.measure t)
     × (length done ≡ 0 → l.self.tally ≡ l.initial.self.tally)
     × (0 < length done → l.self.tally ≡ (l.initial.self.tally + length done) % 2 ^ 64)
+    × (l.self.policy ≡ l.initial.self.policy)
 
 abbrev pub decreases-rows : goal.decreases-rows
 decreases-rows g l = most_rows - vec_len l.rows.rows

@@ -24,6 +24,7 @@ returns-in_err-check_cover g c =
     refused_for_glyph m P w t u (told_some (first_uncovered m 0 t) u (told.value ∙ ap (λ (x : List ℕ). cover_answer (first_uncovered m 0 x)) c.as_slice.ensures)) in
     record {
       kept = still told.same refl;
+      policy = refl;
       value = rw (p.1, p.2) is;
       first_fit = rw (p.1, p.2) (rightly_refused m P w t (layout_laws m P w) (NoGlyph u) is);
     }
@@ -44,6 +45,7 @@ returns-in_err-lay g c =
     (ap (λ (x : Meaning). (laid x P w t).answer) (sym checked.same) ∙ sym (told.value)) in
     record {
       kept = told.kept ∙ still checked.same refl;
+      policy = told.policy;
       value = rw (p.1, p.2) is;
       first_fit = rw (p.1, p.2) (rightly_refused m P w t (layout_laws m P w) e is);
     }
@@ -63,6 +65,7 @@ returns g c =
     ∙ ap Ok (ap (λ (x : Meaning). (laid x P w t).rows) (sym checked.same) ∙ sym (told.items)) in
     record {
       kept = told.kept ∙ still checked.same refl;
+      policy = told.policy;
       value = is;
       first_fit = accepted m P w t (layout_laws m P w) _ is;
     }
