@@ -33,7 +33,3 @@ loop-pair-preserved c =
             λ p q. ap (λ x. kern_at x p q) w.kerns-is ∙ kerns_kept m (take i ks) k inv.1 there p q ∙ sym (ap (λ x. kern_in x p q) more),
           )
     ]
-
-pub returns : goal.returns
-returns c =
-    (c.loop-pair.invariant.0, λ p q. c.loop-pair.invariant.1 p q ∙ ap (λ x. kern_in x p q) (take_all c.loop-pair.pair-index c.args.pairs.now c.loop-pair-test.false))
