@@ -2,6 +2,8 @@
 ghost use Rattle.std.specs.Prelude.{◌≡◌, ℕ, ◌<◌, ◌≤◌, List, length, vec_len, MatchResult};
 ghost use Rattle.page.specs.Texts.{seen, part, most_characters};
 
+use std::marker::Model;
+
 // The most characters that a text has.
 pub const MAX_CHARACTERS: usize = 4_096;
 
@@ -24,7 +26,15 @@ pub trait Characters {
 #[derive(Drop)]
 pub struct Text {
     chars: Vec<u8>,
-    ghost few: { vec_len chars ≤ 4096 },
+}
+
+// Clauses see the characters.
+impl Model for Text {
+    ghost Value = { List ℕ };
+
+    ghost view = { λ t. t.chars.items };
+
+    ghost invariant = { λ t. length t.chars.items ≤ most_characters };
 }
 
 // More than 4,096 characters would stand.
@@ -33,7 +43,7 @@ pub struct TooLong;
 
 impl Text {
     pub fn new(chars: Vec<u8>) -> Result<Text, TooLong>
-        ensures { MatchResult result (λ t. (vec_len chars ≤ most_characters) × (t.chars.items ≡ chars.items)) (λ _. most_characters < vec_len chars) }
+        ensures { MatchResult result (λ t. (vec_len chars ≤ most_characters) × (t ≡ chars.items)) (λ _. most_characters < vec_len chars) }
     {
         if chars.len() > MAX_CHARACTERS {
             return Err(TooLong);
@@ -42,14 +52,14 @@ impl Text {
     }
 
     pub fn as_slice(&self) -> &[u8]
-        ensures { result.now ≡ self.now.chars.items }
+        ensures { result.now ≡ self.now }
     {
         self.chars.as_slice()
     }
 
     // The part [start, end) of the text, as far as the text goes.
     pub fn part(&self, start: usize, end: usize) -> &[u8]
-        ensures { result.now ≡ part self.now.chars.items start end }
+        ensures { result.now ≡ part self.now start end }
     {
         let end = end.min(self.chars.len());
         let start = start.min(end);
@@ -58,7 +68,7 @@ impl Text {
 }
 
 impl Characters for Text {
-    ghost chars = { λ t. t.chars.items };
+    ghost chars = { λ t. t };
 
     fn len(&self) -> usize {
         self.chars.len()

@@ -17,7 +17,7 @@ returns-in_err-check_cover g c =
     let m = g.M.Measurer.meaning c.args.self.now.measurer in
     let P = g.P.Policy.rules c.args.self.now.policy in
     let w = c.args.self.now.measure in
-    let t = vec_items c.args.text.now.chars in
+    let t = c.args.text.now in
     let u = c.in_err-check_cover.field-0.0 in
     let p = err_from_is_err_and c.from_residual.result c.from_residual.ensures.1 in
     let is : setting_of m P w t ≡ Err (NoGlyph u) =
@@ -36,7 +36,7 @@ returns-in_err-lay g c =
     let m = g.M.Measurer.meaning c.args.self.now.measurer in
     let P = g.P.Policy.rules c.args.self.now.policy in
     let w = c.args.self.now.measure in
-    let t = vec_items c.args.text.now.chars in
+    let t = c.args.text.now in
     let e = c.in_err-lay.field-0.0 in
     let p = err_from_is_err_and c.from_residual-in_err-lay.result c.from_residual-in_err-lay.ensures.1 in
     let is : setting_of m P w t ≡ Err e =
@@ -57,7 +57,7 @@ returns g c =
     let m = g.M.Measurer.meaning c.args.self.now.measurer in
     let P = g.P.Policy.rules c.args.self.now.policy in
     let w = c.args.self.now.measure in
-    let t = vec_items c.args.text.now.chars in
+    let t = c.args.text.now in
     let is : setting_of m P w t ≡ Ok (vec_items c.lay.new.rows.rows) =
     set_by_layout m P w t tt
     (told_none (first_uncovered m 0 t) tt (checked.value ∙ ap (λ (x : List ℕ). cover_answer (first_uncovered m 0 x)) c.as_slice.ensures))

@@ -5,8 +5,9 @@ use Rattle.page.proofs.text.Text.part.Goals as goal
 
 pub returns : goal.returns
 returns c =
-    let t = vec_items c.args.self.now.chars in
-    let n = c.len.ensures ∙ c.args.self.now.chars.ok.0 in
+    let t = vec_items c.self.inside.chars in
+    let n = c.len.ensures ∙ c.self.inside.chars.ok.0 in
     let to : c.min-end.result ≡ min c.args.end (length t) = c.min-end.ensures ∙ ap (min c.args.end) n in
     let from : c.min-start.result ≡ min c.args.start (min c.args.end (length t)) = c.min-start.ensures ∙ ap (min c.args.start) to in
     ap (λ (x : List ℕ). part x c.min-start.result c.min-end.result) c.deref.ensures.value ∙ ap₂ (part t) from to ∙ part_within t c.args.start c.args.end
+    ∙ ap (λ (x : List ℕ). part x c.args.start c.args.end) c.self.view_is
