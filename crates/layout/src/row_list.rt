@@ -1,9 +1,11 @@
 // A list with room for every row that a layout may have.
-ghost use Rattle.std.specs.Prelude.{◌≡◌, ◌<◌, ◌≤◌, [], ◌∷◌, ◌++◌, IfOk, vec_len, vec_capacity, MatchResult};
+ghost use Rattle.layout.specs.Layouts.{most_rows};
+ghost use Rattle.std.specs.Prelude.{◌≡◌, ◌≤◌, [], ◌∷◌, ◌++◌, length, IfOk, MatchResult};
 
 use lists::full::Full;
 use page::row::Row;
 use std::alloc::{AllocError, Global};
+use std::marker::Model;
 
 // The most rows that a layout has.
 pub const MAX_ROWS: usize = 1_024;
@@ -12,39 +14,53 @@ pub const MAX_ROWS: usize = 1_024;
 #[derive(Drop)]
 pub struct RowList {
     rows: Vec<Row>,
-    ghost few: { vec_len rows ≤ 1024 },
-    ghost room: { 1024 ≤ vec_capacity rows },
+}
+
+// Clauses see the rows.
+impl Model for RowList {
+    ghost use Rattle.layout.specs.Layouts.{most_rows};
+    ghost use Rattle.page.specs.declared.row.Row.{Row};
+    ghost use Rattle.std.specs.Prelude.{◌≤◌, List, length, vec_capacity};
+
+    ghost Value = { List Row };
+
+    ghost view = { λ l. l.rows.items };
+
+    ghost invariant = { λ l. (length l.rows.items ≤ most_rows) × (most_rows ≤ vec_capacity l.rows) };
 }
 
 impl RowList {
     pub fn new(heap: Global) -> Result<RowList, AllocError>
-        ensures { IfOk result (λ l. l.rows.items ≡ []) }
+        ensures { IfOk result (λ l. l ≡ []) }
     {
         let rows = Vec::with_capacity(heap, MAX_ROWS)?;
         Ok(RowList { rows })
     }
 
     pub fn as_slice(&self) -> &[Row]
-        ensures { result.now ≡ self.now.rows.items }
+        ensures value { result.now ≡ self.now }
+        ensures few { length self.now ≤ most_rows }
     {
         self.rows.as_slice()
     }
 
     pub fn len(&self) -> usize
-        ensures { result ≡ vec_len self.now.rows }
+        ensures value { result ≡ length self.now }
+        ensures few { length self.now ≤ most_rows }
     {
         self.rows.len()
     }
 
     pub fn clear(&mut self)
-        ensures { self.new.rows.items ≡ [] }
+        ensures { self.new ≡ [] }
     {
         self.rows.clear();
     }
 
     // Refuses exactly when all places are taken.
     pub fn push(&mut self, row: Row) -> Result<(), Full>
-        ensures { MatchResult result (λ _. self.new.rows.items ≡ self.old.rows.items ++ row ∷ []) (λ _. (1024 ≤ vec_len self.old.rows) × (self.new.rows ≡ self.old.rows)) }
+        ensures value { MatchResult result (λ _. self.new ≡ self.old ++ row ∷ []) (λ _. (most_rows ≤ length self.old) × (self.new ≡ self.old)) }
+        ensures few { length self.new ≤ most_rows }
     {
         if self.rows.len() >= MAX_ROWS {
             return Err(Full);

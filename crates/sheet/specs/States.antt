@@ -1,5 +1,4 @@
 -- The state of a sheet.
-use Rattle.std.specs.Prelude.{vec_items}
 use Rattle.metrics.specs.Meaning.{Meaning}
 use Rattle.page.specs.Policies.{Rules}
 use Rattle.sheet.specs.Histories.{State}
@@ -11,6 +10,6 @@ state meaning rules s = record {
   rules = rules s.setter.policy;
   measure = s.setter.measure;
   text = s.text;
-  rows = vec_items s.rows.rows;
+  rows = s.rows;
   owed = s.owed;
 }

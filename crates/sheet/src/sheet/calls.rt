@@ -1,5 +1,6 @@
 // Repainting, settling, and what a sheet shows.
-ghost use Rattle.std.specs.Prelude.{◌≡◌, length, vec_len, OnErr};
+ghost use Rattle.std.specs.Prelude.{◌≡◌, ◌≤◌, length, OnErr};
+ghost use Rattle.layout.specs.Layouts.{most_rows};
 ghost use Rattle.sheet.specs.Clean.Answer.{accepted};
 ghost use Rattle.sheet.specs.Clean.Call.{refresh, settle, row};
 ghost use Rattle.sheet.specs.Faults.{settle_answer, row_answer};
@@ -68,7 +69,8 @@ impl<M: Measurer, P: Policy> Sheet<M, P> {
 
     // How many rows there are.
     pub fn row_count(&self) -> usize
-        ensures { result ≡ vec_len self.now.rows.rows }
+        ensures value { result ≡ length self.now.rows }
+        ensures few { length self.now.rows ≤ most_rows }
     {
         self.rows.len()
     }

@@ -1,5 +1,5 @@
 -- Each way out of the loop is one step of laying again.
-use Rattle.std.proofs.Common.{◌≡◌, ◌+◌, ◌-◌, ◌≤◌, min, [], ◌∷◌, ◌++◌, length, Some, None, vec_items, sym, refl, ap, ◌∙◌, arith}
+use Rattle.std.proofs.Common.{◌≡◌, ◌+◌, ◌-◌, ◌≤◌, min, [], ◌∷◌, ◌++◌, length, Some, None, sym, refl, ap, ◌∙◌, arith}
 use Rattle.std.proofs.lemmas.List.{length_push}
 use Rattle.std.proofs.lemmas.Result.{err_from_is_err_and}
 use Rattle.page.specs.Rows.{following}
@@ -22,7 +22,7 @@ returns-in-Ok g c =
       policy = inv.5;
       within = omega (arith, met.among);
       counted = (inv.1, inv.2);
-      met = λ new ch u. resumes_at k.meaning k.rules k.measure t c.args.edit c.args.old.now new (vec_items c.rows.rows.rows) c.rows.start (inv.3 new ch u) ch c.in-Ok.met met;
+      met = λ new ch u. resumes_at k.meaning k.rules k.measure t c.args.edit c.args.old.now new c.rows.rows c.rows.start (inv.3 new ch u) ch c.in-Ok.met met;
     }
 
 pub returns-in_err-row : goal.returns-in_err-row
@@ -50,12 +50,12 @@ returns-in_default g c =
     let t = g.T.Characters.chars c.args.text.now in
     let e = c.args.edit in
     let old = c.args.old.now in
-    let first = vec_items c.args.rows.now.rows in
-    let done = vec_items c.rows.rows.rows in
-    let more = vec_items c.push.new.self.rows in
+    let first = c.args.rows.now in
+    let done = c.rows.rows in
+    let more = c.push.new.self in
     let start = c.rows.start in
     let r = c.in_ok-row.row in
-    let pushed : more ≡ done ++ r ∷ [] = c.in_ok-push.ensures in
+    let pushed : more ≡ done ++ r ∷ [] = c.in_ok-push.ensures.value in
     let long : length more ≡ length done + 1 = ap length pushed ∙ length_push done r in
     record {
       kept = told.kept ∙ inv.0;
@@ -74,14 +74,8 @@ returns-in_default g c =
 
 pub rows-smaller : goal.rows-smaller
 rows-smaller g c =
-    let done = c.rows.rows.rows in
-    let after = c.push.new.self.rows in
-    let long = ap length c.in_ok-push.ensures ∙ length_push (vec_items done) c.in_ok-row.row in
-    let a = done.ok.0 in
-    let b = after.ok.0 in
-    let room = c.rows-test.true in
-    let is = c.len.ensures in
-    omega arith
+    let long = ap length c.in_ok-push.ensures.value ∙ length_push c.rows.rows c.in_ok-row.row in
+    omega (arith, long, c.rows-test.true, c.len.ensures.value)
 
 pub rows-preserved : goal.rows-preserved
 rows-preserved g c =
@@ -92,13 +86,13 @@ rows-preserved g c =
     let t = g.T.Characters.chars c.args.text.now in
     let e = c.args.edit in
     let old = c.args.old.now in
-    let first = vec_items c.args.rows.now.rows in
-    let done = vec_items c.rows.rows.rows in
-    let more = vec_items c.push.new.self.rows in
+    let first = c.args.rows.now in
+    let done = c.rows.rows in
+    let more = c.push.new.self in
     let start = c.rows.start in
     let s' = c.in-Some.next in
     let r = c.in_ok-row.row in
-    let pushed : more ≡ done ++ r ∷ [] = c.in_ok-push.ensures in
+    let pushed : more ≡ done ++ r ∷ [] = c.in_ok-push.ensures.value in
     let long : length more ≡ length done + 1 = ap length pushed ∙ length_push done r in (
       told.kept ∙ inv.0,
       omega arith,
@@ -127,8 +121,8 @@ returns g c =
     let inv = c.rows.invariant in
     let k = style g.M.Measurer.meaning g.P.Policy.rules c.args.setter.now in
     let t = g.T.Characters.chars c.args.text.now in
-    let done = vec_items c.rows.rows.rows in
-    let full : most_rows ≤ length done = let a = c.rows.rows.rows.ok.0 in omega (arith, c.rows-test.false, c.len.ensures) in
+    let done = c.rows.rows in
+    let full : most_rows ≤ length done = omega (arith, c.rows-test.false, c.len.ensures.value) in
     record {
       kept = inv.0;
       policy = inv.5;

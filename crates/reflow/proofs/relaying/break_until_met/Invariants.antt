@@ -1,4 +1,4 @@
-use Rattle.std.proofs.Common.{◌≡◌, ◌+◌, ◌-◌, ◌%◌, ◌^◌, ◌<◌, ◌≤◌, List, length, vec_items, vec_len}
+use Rattle.std.proofs.Common.{◌≡◌, ◌+◌, ◌-◌, ◌%◌, ◌^◌, ◌<◌, ◌≤◌, List, length}
 use Rattle.page.specs.declared.row.Row.{Row}
 use Rattle.layout.specs.Layouts.{most_rows}
 use Rattle.layout.specs.Styles.{style}
@@ -11,8 +11,8 @@ abbrev pub invariant-rows : goal.invariant-rows
 invariant-rows g l =
     let t = g.T.Characters.chars l.text in
     let k = style g.M.Measurer.meaning g.P.Policy.rules l.initial.setter in
-    let done = vec_items l.rows.rows in
-    let first = vec_items l.initial.rows.rows in
+    let done = l.rows in
+    let first = l.initial.rows in
     (style g.M.Measurer.meaning g.P.Policy.rules l.setter ≡ k)
     × (length first ≤ length done)
     × (l.initial.setter.tally < 2 ^ 64 → l.setter.tally ≡ (l.initial.setter.tally + (length done - length first)) % 2 ^ 64)
@@ -23,4 +23,4 @@ invariant-rows g l =
     × (l.setter.policy ≡ l.initial.setter.policy)
 
 abbrev pub decreases-rows : goal.decreases-rows
-decreases-rows g l = most_rows - vec_len l.rows.rows
+decreases-rows g l = most_rows - length l.rows

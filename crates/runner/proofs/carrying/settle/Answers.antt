@@ -1,4 +1,4 @@
-use Rattle.std.proofs.Common.{ℕ, refl, ap, ◌∙◌}
+use Rattle.std.proofs.Common.{ℕ, refl, ap}
 use Rattle.std.proofs.lemmas.Result.{err_from_is_err_and}
 use Rattle.sheet.specs.Clean.Answer.{refused, settled}
 use Rattle.sheet.specs.Clean.Call.{settle}
@@ -18,5 +18,4 @@ pub returns : goal.returns
 returns g c =
     let s = state g.M.Measurer.meaning g.P.Policy.rules c.settle.new.self in
     let p = c.settle.new.record in
-    let count = c.row_count.ensures ∙ c.settle.new.self.rows.rows.ok.0 in
-    λ k h n f. one_call k h s settle (settled p) (c.in_ok-settle.ensures.follows k h f) n _ (ap (λ (rows : ℕ). words n rows (settled p)) count)
+    λ k h n f. one_call k h s settle (settled p) (c.in_ok-settle.ensures.follows k h f) n _ (ap (λ (rows : ℕ). words n rows (settled p)) c.row_count.ensures.value)

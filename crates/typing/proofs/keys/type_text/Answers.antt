@@ -1,4 +1,4 @@
-use Rattle.std.proofs.Common.{rules, tests, ◌≡◌, ℕ, List, Ok, Err, ◌∙◌, subst, arith}
+use Rattle.std.proofs.Common.{rules, tests, ◌≡◌, ℕ, List, Ok, Err, subst, arith}
 use Rattle.std.proofs.lemmas.List.{take_all}
 use Rattle.screen.specs.Views.{view}
 use Rattle.sheet.specs.States.{state}
@@ -27,7 +27,7 @@ keys-preserved g c =
     λ k h f sees.
     let so = c.keys.invariant k h f sees in
     let pressed = c.press.ensures k _ so.0.follows so.0.screen_is in
-    one_more k h c.args.text.now c.keys.place-counter (omega arith) c.keys.effort _ _ so _ _ c.in_ok-broken.broken c.row_count.result (rw is at pressed) (c.row_count.ensures ∙ c.press.new.sheet.rows.rows.ok.0)
+    one_more k h c.args.text.now c.keys.place-counter (omega arith) c.keys.effort _ _ so _ _ c.in_ok-broken.broken c.row_count.result (rw is at pressed) c.row_count.ensures.value
 
 pub returns : goal.returns
 returns g c k h f sees =

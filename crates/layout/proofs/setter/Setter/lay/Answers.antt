@@ -1,5 +1,5 @@
 -- Each way out of the loop is one way that a layout goes on.
-use Rattle.std.proofs.Common.{◌≡◌, ℕ, ◌+◌, ◌-◌, ◌%◌, ◌^◌, ◌<◌, ◌≤◌, min, List, [], ◌∷◌, ◌++◌, length, Some, Ok, Err, vec_items, sym, ap, ◌∙◌, arith}
+use Rattle.std.proofs.Common.{◌≡◌, ℕ, ◌+◌, ◌-◌, ◌%◌, ◌^◌, ◌<◌, ◌≤◌, min, List, [], ◌∷◌, ◌++◌, length, Some, Ok, Err, sym, ap, ◌∙◌, arith}
 use Rattle.std.proofs.lemmas.List.{length_push}
 use Rattle.std.proofs.lemmas.Result.{err_from_is_err_and}
 use Rattle.layout.specs.Layouts.{laid, laid_from, most_rows}
@@ -20,9 +20,9 @@ returns-in_err-row g c =
     let told = c.in_err-row.ensures in
     let k = style g.M.Measurer.meaning g.P.Policy.rules c.args.self.now in
     let t = g.T.Characters.chars c.args.text.now in
-    let done = vec_items c.rows.rows.rows in
+    let done = c.rows.rows in
     let u = c.in_err-row.field-0.0 in
-    let short : length done < most_rows = let a = c.rows.rows.rows.ok.0 in omega (arith, c.rows-test.true, c.len.ensures) in
+    let short : length done < most_rows = omega (arith, c.rows-test.true, c.len.ensures.value) in
     let p = err_from_is_err_and c.from_residual.result c.from_residual.ensures.1 in
     let ended : Ended (laid k.meaning k.rules k.measure t) (Err (NoGlyph u)) done (length done + 1) =
     stopped_at_missing k.meaning k.rules k.measure t most_rows done c.rows.start (laid k.meaning k.rules k.measure t) inv.2 u short
@@ -42,9 +42,9 @@ returns-in_default g c =
     let told = c.in_ok-row.ensures in
     let k = style g.M.Measurer.meaning g.P.Policy.rules c.args.self.now in
     let t = g.T.Characters.chars c.args.text.now in
-    let done = vec_items c.rows.rows.rows in
+    let done = c.rows.rows in
     let r = c.in_ok-row.row in
-    let short : length done < most_rows = let a = c.rows.rows.rows.ok.0 in omega (arith, c.rows-test.true, c.len.ensures) in
+    let short : length done < most_rows = omega (arith, c.rows-test.true, c.len.ensures.value) in
     let found : row_from k.meaning k.rules k.measure t c.rows.start ≡ Ok r =
     broke_at c.rows.start (length t) inv.1 (row_from k.meaning k.rules k.measure t) ∙ ap (λ (x : Style). row_from x.meaning x.rules x.measure t (min c.rows.start (length t))) (sym inv.0) ∙ sym (told.value) in
     let within : r.end ≤ 4096 =
@@ -55,21 +55,15 @@ returns-in_default g c =
       kept = told.kept ∙ inv.0;
       policy = told.policy ∙ inv.5;
       value = sym ended.answer;
-      items = c.in_ok-push.ensures ∙ sym ended.rows;
+      items = c.in_ok-push.ensures.value ∙ sym ended.rows;
       laws = layout_laws k.meaning k.rules k.measure;
       counted = counted_more c.args.self.now.tally c.rows.self.tally _ (length done) inv.3 inv.4 told.counted ∙ ap (λ (n : ℕ). (c.args.self.now.tally + n) % 2 ^ 64) (sym ended.broken);
     }
 
 pub rows-smaller : goal.rows-smaller
 rows-smaller g c =
-    let done = c.rows.rows.rows in
-    let after = c.push.new.self.rows in
-    let long = ap length c.in_ok-push.ensures ∙ length_push (vec_items done) c.in_ok-row.row in
-    let a = done.ok.0 in
-    let b = after.ok.0 in
-    let room = c.rows-test.true in
-    let is = c.len.ensures in
-    omega arith
+    let long = ap length c.in_ok-push.ensures.value ∙ length_push c.rows.rows c.in_ok-row.row in
+    omega (arith, long, c.rows-test.true, c.len.ensures.value)
 
 pub rows-preserved : goal.rows-preserved
 rows-preserved g c =
@@ -77,13 +71,13 @@ rows-preserved g c =
     let told = c.in_ok-row.ensures in
     let k = style g.M.Measurer.meaning g.P.Policy.rules c.args.self.now in
     let t = g.T.Characters.chars c.args.text.now in
-    let done = vec_items c.rows.rows.rows in
-    let more = vec_items c.push.new.self.rows in
+    let done = c.rows.rows in
+    let more = c.push.new.self in
     let r = c.in_ok-row.row in
     let s' = c.in-Some.next in
-    let pushed : more ≡ done ++ r ∷ [] = c.in_ok-push.ensures in
+    let pushed : more ≡ done ++ r ∷ [] = c.in_ok-push.ensures.value in
     let long : length more ≡ length done + 1 = ap length pushed ∙ length_push done r in
-    let short : length done < most_rows = let a = c.rows.rows.rows.ok.0 in omega (arith, c.rows-test.true, c.len.ensures) in
+    let short : length done < most_rows = omega (arith, c.rows-test.true, c.len.ensures.value) in
     let found : row_from k.meaning k.rules k.measure t c.rows.start ≡ Ok r =
     broke_at c.rows.start (length t) inv.1 (row_from k.meaning k.rules k.measure t) ∙ ap (λ (x : Style). row_from x.meaning x.rules x.measure t (min c.rows.start (length t))) (sym inv.0) ∙ sym (told.value) in
     let within : r.end ≤ 4096 =
@@ -102,8 +96,8 @@ returns g c =
     let inv = c.rows.invariant in
     let k = style g.M.Measurer.meaning g.P.Policy.rules c.args.self.now in
     let t = g.T.Characters.chars c.args.text.now in
-    let done = vec_items c.rows.rows.rows in
-    let full : most_rows ≤ length done = let a = c.rows.rows.rows.ok.0 in omega (arith, c.rows-test.false, c.len.ensures) in
+    let done = c.rows.rows in
+    let full : most_rows ≤ length done = omega (arith, c.rows-test.false, c.len.ensures.value) in
     let ended : Ended (laid k.meaning k.rules k.measure t) (Err TooManyRows) done (length done) =
     stopped_full k.meaning k.rules k.measure t most_rows done c.rows.start (laid k.meaning k.rules k.measure t) inv.2 full in
     record {

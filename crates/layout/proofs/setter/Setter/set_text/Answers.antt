@@ -1,5 +1,5 @@
 -- The answer is the definition's, and the theorems on layouts say what that means.
-use Rattle.std.proofs.Common.{◌≡◌, ℕ, List, Ok, Err, vec_items, sym, refl, ap, ◌∙◌}
+use Rattle.std.proofs.Common.{◌≡◌, ℕ, List, Ok, Err, sym, refl, ap, ◌∙◌}
 use Rattle.std.proofs.lemmas.Result.{err_from_is_err_and}
 use Rattle.metrics.specs.Meaning.{Meaning}
 use Rattle.layout.specs.Covers.{first_uncovered, cover_answer}
@@ -58,7 +58,7 @@ returns g c =
     let P = g.P.Policy.rules c.args.self.now.policy in
     let w = c.args.self.now.measure in
     let t = c.args.text.now in
-    let is : setting_of m P w t ≡ Ok (vec_items c.lay.new.rows.rows) =
+    let is : setting_of m P w t ≡ Ok c.lay.new.rows =
     set_by_layout m P w t tt
     (told_none (first_uncovered m 0 t) tt (checked.value ∙ ap (λ (x : List ℕ). cover_answer (first_uncovered m 0 x)) c.as_slice.ensures))
     (ap (λ (x : Meaning). (laid x P w t).answer) (sym checked.same) ∙ sym (told.value))

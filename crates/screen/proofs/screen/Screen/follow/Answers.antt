@@ -33,7 +33,7 @@ returns g c =
     let so : map shown_row (vec_items c.splice.new.self) ≡ placed sheet screen x = ap (map shown_row) now ∙ put_in old new few sheet x.0 x.1 x.2 (c.in_ok-painted.ensures.value k h f) in
     elim c.if-record.branch [
       | then-record w ↦
-          let rows : w.row_count.result ≡ length sheet = w.row_count.ensures ∙ c.args.sheet.now.rows.rows.ok.0 ∙ ap length f.rows ∙ sym (length-map _ _) in
+          let rows : w.row_count.result ≡ length sheet = w.row_count.ensures.value ∙ ap length f.rows ∙ sym (length-map _ _) in
           so ∙ ap (placed sheet screen) w.from-is ∙ followed_whole c.args.record.now sheet screen w.row_count.result c.len-shown.result w.if-record.true rows (long ∙ sym (length-map old shown_row))
       | else-record w ↦ so ∙ ap (placed sheet screen) w.from-is ∙ followed_part c.args.record.now sheet screen w.if-record.false
     ] in

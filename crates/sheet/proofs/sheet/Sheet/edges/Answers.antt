@@ -15,7 +15,7 @@ use Rattle.sheet.proofs.sheet.Sheet.edges.Goals as goal
 pub returns-then-number-rows : goal.returns-then-number-rows
 returns-then-number-rows g c = record {
   follows = λ k h f. f;
-  value = λ k h f. no_row k h _ f c.args.number c.args.edges.now (ap (λ (rs : List Row). slice_get rs c.args.number) (sym c.as_slice-rows.ensures) ∙ slice_get_past c.as_slice-rows.result.now c.args.number c.if-number-rows.true);
+  value = λ k h f. no_row k h _ f c.args.number c.args.edges.now (ap (λ (rs : List Row). slice_get rs c.args.number) (sym c.as_slice-rows.ensures.value) ∙ slice_get_past c.as_slice-rows.result.now c.args.number c.if-number-rows.true);
   kept = (refl, refl);
   counted = refl;
   text = refl;
@@ -31,7 +31,7 @@ returns-then-end-start g c =
     record {
       follows = λ k h f. f;
       value = λ k h f.
-          let there = ap (λ (rs : List Row). slice_get rs i) (sym c.as_slice-rows.ensures) ∙ slice_get-get_or rows i zero_row c.if-number-rows.false in
+          let there = ap (λ (rs : List Row). slice_get rs i) (sym c.as_slice-rows.ensures.value) ∙ slice_get-get_or rows i zero_row c.if-number-rows.false in
           let lies = inside k h _ f i c.args.edges.now r there in
           let to : c.min-end.result ≡ r.end = c.min-end.ensures ∙ omega (arith, lies.within, c.len.ensures.value) in
           let from : c.min-start.result ≡ r.start = c.min-start.ensures ∙ omega (arith, lies.forward, to) in
@@ -54,7 +54,7 @@ returns g c =
     record {
       follows = λ k h f. stays k h _ f _ (record { meaning = c.write_edges.ensures.same; rules = refl; measure = refl; text = refl; rows = refl; owed = refl });
       value = λ k h f.
-          let there = ap (λ (rs : List Row). slice_get rs i) (sym c.as_slice-rows.ensures) ∙ slice_get-get_or rows i zero_row c.if-number-rows.false in
+          let there = ap (λ (rs : List Row). slice_get rs i) (sym c.as_slice-rows.ensures.value) ∙ slice_get-get_or rows i zero_row c.if-number-rows.false in
           let lies = inside k h _ f i b r there in
           let to : c.min-end.result ≡ r.end = c.min-end.ensures ∙ omega (arith, lies.within, c.len.ensures.value) in
           let from : c.min-start.result ≡ r.start = c.min-start.ensures ∙ omega (arith, lies.forward, to) in

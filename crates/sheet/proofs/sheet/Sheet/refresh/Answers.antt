@@ -1,9 +1,9 @@
-use Rattle.std.proofs.Common.{refl, ◌∙◌}
+use Rattle.std.proofs.Common.{refl}
 use Rattle.sheet.proofs.Continuing.{refreshed}
 use Rattle.sheet.proofs.sheet.Sheet.refresh.Goals as goal
 
 pub returns : goal.returns
 returns g c = record {
-  follows = λ k h f. refreshed k h _ _ f c.len-rows.result (c.len-rows.ensures ∙ c.args.self.now.rows.rows.ok.0) (record { meaning = refl; rules = refl; measure = refl; text = refl; rows = refl; owed = refl });
+  follows = λ k h f. refreshed k h _ _ f c.len-rows.result c.len-rows.ensures.value (record { meaning = refl; rules = refl; measure = refl; text = refl; rows = refl; owed = refl });
   counted = refl;
 }

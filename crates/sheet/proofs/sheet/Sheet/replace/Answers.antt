@@ -1,5 +1,5 @@
 -- Each way out is a way of the clean sheet's replace.
-use Rattle.std.proofs.Common.{◌≡◌, ℕ, ◌+◌, ◌-◌, ◌%◌, ◌^◌, ◌<◌, ◌≤◌, List, length, None, vec_items, sym, refl, ap, ◌∙◌, subst, ap₂, arith}
+use Rattle.std.proofs.Common.{◌≡◌, ℕ, ◌+◌, ◌-◌, ◌%◌, ◌^◌, ◌<◌, ◌≤◌, List, length, None, sym, refl, ap, ◌∙◌, subst, ap₂, arith}
 use Rattle.std.proofs.lemmas.Result.{err_from_is_err_and}
 use Rattle.metrics.specs.Meaning.{Meaning}
 use Rattle.page.specs.Texts.{edited}
@@ -7,7 +7,6 @@ use Rattle.layout.proofs.Settling.{told_some, told_none}
 use Rattle.layout.specs.Styles.{Style}
 use Rattle.layout.specs.Covers.{first_uncovered}
 use Rattle.layout.specs.Layouts.{most_rows}
-use Rattle.layout.specs.declared.row_list.RowList.{RowList}
 use Rattle.page.specs.declared.row.Row.{Row}
 use Rattle.reflow.specs.Edits.{rows_of}
 use Rattle.reflow.specs.Repaints.{repaint_of}
@@ -91,7 +90,7 @@ returns-in_err-record g c =
       follows = λ k h f.
           let glyphs : first_uncovered m 0 ins ≡ None = told_none (first_uncovered m 0 ins) tt checked.value in
           let ed = subst (λ (x : Meaning). Editing x P w t ins (edit_of at del ins)) (sym checked.same) (editing k h _ f at del ins in-text in_rest glyphs) in
-          let old = c.as_slice.ensures ∙ own_rows k h _ f ∙ ap (λ (x : Meaning). rows_of x P w t) (sym checked.same) in
+          let old = c.as_slice.ensures.value ∙ own_rows k h _ f ∙ ap (λ (x : Meaning). rows_of x P w t) (sym checked.same) in
           let x = told.relaid t ins c.new-view.ensures ed old in
           let conv : rows_of m' P w _ ≡ rows_of m P w (edited t at del ins) = ap₂ (λ (y : Meaning) (z : List ℕ). rows_of y P w z) checked.same c.new-view.ensures in
           rw (p.1, p.2, x.0) (refused_many k h _ _ f at del ins
@@ -123,7 +122,7 @@ returns g c =
       follows = λ k h f.
           let glyphs : first_uncovered m 0 ins ≡ None = told_none (first_uncovered m 0 ins) tt checked.value in
           let ed = subst (λ (x : Meaning). Editing x P w t ins (edit_of at del ins)) (sym checked.same) (editing k h _ f at del ins in-text in_rest glyphs) in
-          let old = c.as_slice.ensures ∙ own_rows k h _ f ∙ ap (λ (x : Meaning). rows_of x P w t) (sym checked.same) in
+          let old = c.as_slice.ensures.value ∙ own_rows k h _ f ∙ ap (λ (x : Meaning). rows_of x P w t) (sym checked.same) in
           let x = told.relaid t ins c.new-view.ensures ed old in
           let conv : rows_of m' P w _ ≡ rows_of m P w (edited t at del ins) = ap₂ (λ (y : Meaning) (z : List ℕ). rows_of y P w z) checked.same c.new-view.ensures in
           replaced_call k h _ _ f at del ins c.in_ok-record.record none in-text in_rest fits glyphs (record {
@@ -131,15 +130,15 @@ returns g c =
             rules = ap (λ (x : Style). x.rules) told.kept;
             measure = ap (λ (x : Style). x.measure) told.kept;
             text = c.replace.ensures;
-            rows = ap (λ (l : RowList). vec_items l.rows) c.swap.ensures.x_after ∙ x.items ∙ conv;
+            rows = c.swap.ensures.x_after ∙ x.items ∙ conv;
             few_rows = subst (λ (y : List Row). length y ≤ most_rows) conv x.few;
             owed = refl;
-            painted = x.painted ∙ ap₂ (repaint_of (edit_of at del ins)) c.as_slice.ensures conv;
+            painted = x.painted ∙ ap₂ (repaint_of (edit_of at del ins)) c.as_slice.ensures.value conv;
           });
       counted = λ k h f q is.
           let glyphs : first_uncovered m 0 ins ≡ None = told_none (first_uncovered m 0 ins) tt checked.value in
           let ed = subst (λ (x : Meaning). Editing x P w t ins (edit_of at del ins)) (sym checked.same) (editing k h _ f at del ins in-text in_rest glyphs) in
-          let old = c.as_slice.ensures ∙ own_rows k h _ f ∙ ap (λ (x : Meaning). rows_of x P w t) (sym checked.same) in
+          let old = c.as_slice.ensures.value ∙ own_rows k h _ f ∙ ap (λ (x : Meaning). rows_of x P w t) (sym checked.same) in
           let x = told.relaid t ins c.new-view.ensures ed old in
           let same : c.in_ok-record.record ≡ q = cc in
           x.counted ∙ ap (λ (y : Repaint). (c.args.self.now.setter.tally + y.broken) % 2 ^ 64) same;

@@ -10,7 +10,7 @@ use Rattle.sheet.proofs.sheet.Sheet.row.Goals as goal
 
 pub returns-then-number-rows : goal.returns-then-number-rows
 returns-then-number-rows g c = record {
-  follows = λ k h f. no_such_row k h _ f c.args.number c.args.buffer.now (ap (λ (rs : List Row). slice_get rs c.args.number) (sym c.as_slice-rows.ensures) ∙ slice_get_past c.as_slice-rows.result.now c.args.number c.if-number-rows.true);
+  follows = λ k h f. no_such_row k h _ f c.args.number c.args.buffer.now (ap (λ (rs : List Row). slice_get rs c.args.number) (sym c.as_slice-rows.ensures.value) ∙ slice_get_past c.as_slice-rows.result.now c.args.number c.if-number-rows.true);
   kept = refl;
 }
 
@@ -22,7 +22,7 @@ returns-then-end-start g c =
     let t = c.args.self.now.text in
     record {
       follows = λ k h f.
-          let there = ap (λ (rs : List Row). slice_get rs i) (sym c.as_slice-rows.ensures) ∙ slice_get-get_or rows i zero_row c.if-number-rows.false in
+          let there = ap (λ (rs : List Row). slice_get rs i) (sym c.as_slice-rows.ensures.value) ∙ slice_get-get_or rows i zero_row c.if-number-rows.false in
           let lies = inside k h _ f i c.args.buffer.now r there in
           let to : c.min-end.result ≡ r.end = c.min-end.ensures ∙ omega (arith, lies.within, c.len.ensures.value) in
           let from : c.min-start.result ≡ r.start = c.min-start.ensures ∙ omega (arith, lies.forward, to) in
@@ -39,7 +39,7 @@ returns g c =
     let b = c.args.buffer.now in
     record {
       follows = λ k h f.
-          let there = ap (λ (rs : List Row). slice_get rs i) (sym c.as_slice-rows.ensures) ∙ slice_get-get_or rows i zero_row c.if-number-rows.false in
+          let there = ap (λ (rs : List Row). slice_get rs i) (sym c.as_slice-rows.ensures.value) ∙ slice_get-get_or rows i zero_row c.if-number-rows.false in
           let lies = inside k h _ f i b r there in
           let to : c.min-end.result ≡ r.end = c.min-end.ensures ∙ omega (arith, lies.within, c.len.ensures.value) in
           let from : c.min-start.result ≡ r.start = c.min-start.ensures ∙ omega (arith, lies.forward, to) in
