@@ -2,6 +2,7 @@
 ghost use Rattle.std.specs.Prelude.{◌≡◌};
 ghost use Rattle.metrics.specs.Meaning.{Meaning, Bounded, answer};
 ghost use Rattle.metrics.specs.Limits.{cut};
+ghost use Rattle.std.proofs.Common.{rules};
 
 use crate::fault::MissingGlyph;
 
@@ -31,4 +32,19 @@ pub trait Measurer {
         ensures value { result ≡ answer (meaning self.old) before c };
 
     ghost bounded: { (m : Self) → Bounded (meaning m) };
+}
+
+// A lent measurer is one too.
+impl<M: Measurer> Measurer for &mut M {
+    ghost meaning = { λ m. M.meaning m.now };
+
+    ghost bounded = { Prim.search rules };
+
+    fn covers(&mut self, c: u8) -> bool {
+        (**self).covers(c)
+    }
+
+    fn advance(&mut self, before: Option<u8>, c: u8) -> Result<u16, MissingGlyph> {
+        (**self).advance(before, c)
+    }
 }

@@ -16,6 +16,19 @@ pub trait Policy {
         ensures { result ≡ (rules self.now).hangs c };
 }
 
+// A lent policy is one too.
+impl<P: Policy> Policy for &P {
+    ghost rules = { λ p. P.rules p.now };
+
+    fn may_break(&self, before: u8, after: u8) -> bool {
+        (**self).may_break(before, after)
+    }
+
+    fn hangs(&self, c: u8) -> bool {
+        (**self).hangs(c)
+    }
+}
+
 // Rows end after spaces, and spaces hang.
 #[derive(Clone, Copy)]
 pub struct Spaces;
