@@ -51,12 +51,17 @@ impl<M: Measurer, P: Policy> Setter<M, P> {
     pub fn set_text(&mut self, heap: Global, text: &Text) -> Result<RowList, SetFault>
         ensures kept { style M.meaning P.rules self.new ≡ style M.meaning P.rules self.old }
         ensures policy { self.new.policy ≡ self.old.policy }
+        ensures counted { self.new.tally ≡ self.old.tally }
         ensures value { MatchResult result (λ l. setting_of (M.meaning self.old.measurer) (P.rules self.old.policy) self.old.measure text.now ≡ Ok l) (RefusalOf (setting_of (M.meaning self.old.measurer) (P.rules self.old.policy) self.old.measure text.now)) }
         ensures first_fit { MatchResult result (λ l. Accepted (M.meaning self.old.measurer) (P.rules self.old.policy) self.old.measure text.now l) (RightlyNotSet (M.meaning self.old.measurer) (P.rules self.old.policy) self.old.measure text.now) }
     {
         check_cover(&mut self.measurer, text.as_slice())?;
         let mut rows = RowList::new(heap)?;
-        self.lay(text, &mut rows)?;
+        let before = self.tally;
+        let laid = self.lay(text, &mut rows);
+        // the tally is for rows that are broken one edit after another
+        self.tally = before;
+        laid?;
         Ok(rows)
     }
 }

@@ -25,20 +25,21 @@ returns-in_err-check_cover g c =
     record {
       kept = still told.same refl;
       policy = refl;
+      counted = refl;
       value = rw (p.1, p.2) is;
       first_fit = rw (p.1, p.2) (rightly_refused m P w t (layout_laws m P w) (NoGlyph u) is);
     }
 
-pub returns-in_err-lay : goal.returns-in_err-lay
-returns-in_err-lay g c =
+pub returns-in_err-laid : goal.returns-in_err-laid
+returns-in_err-laid g c =
     let checked = c.in_ok-check_cover.ensures in
-    let told = c.in_err-lay.ensures in
+    let told = c.in_err-laid.ensures in
     let m = g.M.Measurer.meaning c.args.self.now.measurer in
     let P = g.P.Policy.rules c.args.self.now.policy in
     let w = c.args.self.now.measure in
     let t = c.args.text.now in
-    let e = c.in_err-lay.field-0.0 in
-    let p = err_from_is_err_and c.from_residual-in_err-lay.result c.from_residual-in_err-lay.ensures.1 in
+    let e = c.in_err-laid.field-0.0 in
+    let p = err_from_is_err_and c.from_residual-in_err-laid.result c.from_residual-in_err-laid.ensures.1 in
     let is : setting_of m P w t ≡ Err e =
     refused_by_layout m P w t e
     (told_none (first_uncovered m 0 t) tt (checked.value ∙ ap (λ (x : List ℕ). cover_answer (first_uncovered m 0 x)) c.as_slice.ensures))
@@ -46,6 +47,7 @@ returns-in_err-lay g c =
     record {
       kept = told.kept ∙ still checked.same refl;
       policy = told.policy;
+      counted = refl;
       value = rw (p.1, p.2) is;
       first_fit = rw (p.1, p.2) (rightly_refused m P w t (layout_laws m P w) e is);
     }
@@ -53,12 +55,12 @@ returns-in_err-lay g c =
 pub returns : goal.returns
 returns g c =
     let checked = c.in_ok-check_cover.ensures in
-    let told = c.in_ok-lay.ensures in
+    let told = c.in_ok-laid.ensures in
     let m = g.M.Measurer.meaning c.args.self.now.measurer in
     let P = g.P.Policy.rules c.args.self.now.policy in
     let w = c.args.self.now.measure in
     let t = c.args.text.now in
-    let is : setting_of m P w t ≡ Ok c.lay.new.rows =
+    let is : setting_of m P w t ≡ Ok c.lay-laid.new.rows =
     set_by_layout m P w t tt
     (told_none (first_uncovered m 0 t) tt (checked.value ∙ ap (λ (x : List ℕ). cover_answer (first_uncovered m 0 x)) c.as_slice.ensures))
     (ap (λ (x : Meaning). (laid x P w t).answer) (sym checked.same) ∙ sym (told.value))
@@ -66,6 +68,7 @@ returns g c =
     record {
       kept = told.kept ∙ still checked.same refl;
       policy = told.policy;
+      counted = refl;
       value = is;
       first_fit = accepted m P w t (layout_laws m P w) _ is;
     }
