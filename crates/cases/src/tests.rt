@@ -40,7 +40,7 @@ fn sets<M: Measurer + Drop, P: Policy + Drop>(
 }
 
 // Cells of 500.
-fn cells<P>(policy: P, measure: u32) -> Result<Setter<Cells, P>, Fail> {
+fn cells<P: Drop>(policy: P, measure: u32) -> Result<Setter<Cells, P>, Fail> {
     Ok(Setter::new(Cells::new(500)?, policy, Measure::new(measure)?))
 }
 
