@@ -23,7 +23,7 @@ pub fn pile(font: Font, cells: Cells, units: TrackingUnits) -> Pile
     ensures cells { result.below.below.second ≡ cells }
     ensures units { result.below.units ≡ units }
     ensures held { result.pairs.slots ≡ replicate most_held None }
-    ensures meaning { ⟦<Pile as Measurer>⟧.meaning result ≡ piled (table_meaning font.widths font.kerns) cells.size units.value }
+    ensures meaning { ⟦<Pile as Measurer>⟧.meaning result ≡ piled (table_meaning font.widths font.kerns) cells.size units }
     ensures worked { Worked }
 {
     AdvanceCache::new(Tracking::new(Fallback::new(font, cells), units))
@@ -39,7 +39,7 @@ pub fn first_answer(
     before: Option<u8>,
     c: u8,
 ) -> Result<Result<u16, MissingGlyph>, AllocError>
-    ensures { IfOk result (λ a. a ≡ answer (piled (font_meaning glyphs.now kerns.now) cells.size units.value) before c) }
+    ensures { IfOk result (λ a. a ≡ answer (piled (font_meaning glyphs.now kerns.now) cells.size units) before c) }
 {
     let font = Font::new(heap, glyphs, kerns)?;
     let mut measurer = pile(font, cells, units);

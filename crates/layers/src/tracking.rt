@@ -1,23 +1,33 @@
 // Tracking: every advance after a predecessor grows or shrinks by one amount.
-ghost use Rattle.std.specs.Prelude.{◌≡◌, ◌≤◌, ℤ, pos, negsuc, ◌≤ℤ◌, MatchResult};
+ghost use Rattle.std.specs.Prelude.{◌≡◌, ℤ, MatchResult};
 ghost use Rattle.layers.specs.Tracking.{TrackingRange, tracked};
 ghost use Rattle.metrics.specs.Faults.{number};
 ghost use Rattle.std.proofs.Common.{rules};
 
 use metrics::fault::{MissingGlyph, OutOfRange};
 use metrics::measurer::{Measurer, cut};
+use std::marker::Model;
 
 // What tracking adds, -500 to 500.
 #[derive(Clone, Copy, Debug)]
 pub struct TrackingUnits {
     value: i32,
-    ghost least: { negsuc 499 ≤ℤ value },
-    ghost most: { value ≤ℤ pos 500 },
+}
+
+// Clauses see the amount.
+impl Model for TrackingUnits {
+    ghost Value = { ℤ };
+
+    ghost view = { λ t. t.value };
+
+    ghost invariant = { λ t. TrackingRange t.value };
+
+    ghost inverse = { λ v. record { value = v } };
 }
 
 impl TrackingUnits {
     pub fn new(value: i32) -> Result<TrackingUnits, OutOfRange>
-        ensures { MatchResult result (λ t. TrackingRange value × (t.value ≡ value)) (λ e. (TrackingRange value → ⊥) × (e ≡ OutOfRange.Tracking) × (number e ≡ 17)) }
+        ensures { MatchResult result (λ t. TrackingRange value × (t ≡ value)) (λ e. (TrackingRange value → ⊥) × (e ≡ OutOfRange.Tracking) × (number e ≡ 17)) }
     {
         match value {
             -500..=500 => Ok(TrackingUnits { value }),
@@ -42,7 +52,7 @@ impl<M: Measurer> Tracking<M> {
 }
 
 impl<M: Measurer> Measurer for Tracking<M> {
-    ghost meaning = { λ t. tracked t.units.value (M.meaning t.below) };
+    ghost meaning = { λ t. tracked t.units (M.meaning t.below) };
 
     ghost bounded = { Prim.search rules };
 
@@ -51,10 +61,11 @@ impl<M: Measurer> Measurer for Tracking<M> {
     }
 
     fn advance(&mut self, before: Option<u8>, c: u8) -> Result<u16, MissingGlyph> {
+        let units = self.units;
         let advance = self.below.advance(before, c).map_err(MissingGlyph::deeper)?;
         match before {
             None => Ok(advance),
-            Some(_) => Ok(cut(i32::from(advance) + self.units.value)),
+            Some(_) => Ok(cut(i32::from(advance) + units.value)),
         }
     }
 }

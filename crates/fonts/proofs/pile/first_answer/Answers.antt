@@ -6,4 +6,4 @@ use Rattle.fonts.proofs.pile.first_answer.Goals as goal
 pub returns : goal.returns
 returns c =
     c.advance.ensures.value
-    ∙ ap (λ m. answer m c.args.before c.args.c) (c.pile-measurer.ensures.meaning ∙ ap (λ m. piled m c.args.cells.size c.args.units.value) c.in_ok-font.ensures)
+    ∙ ap (λ m. answer m c.args.before c.args.c) (c.pile-measurer.ensures.meaning ∙ ap (λ m. piled m c.args.cells.size c.args.units) c.in_ok-font.ensures)
