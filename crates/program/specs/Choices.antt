@@ -10,5 +10,5 @@ abbrev pub AsAsked : Options → Chosen → Type 0
 AsAsked o (Cells s) =
     (o.font ≡ None) × (s.measurer.size ≡ 500) × (s.policy ≡ o.breaks) × (s.measure ≡ o.measure) × (s.tally ≡ 0)
 AsAsked o (Font s) =
-    (is_some o.font ≡ true) × (s.measurer.below.below.second.size ≡ 500) × (s.measurer.below.units.value ≡ o.tracking)
+    (is_some o.font ≡ true) × (s.measurer.below.below.second.size ≡ 500) × (s.measurer.below.units ≡ o.tracking)
     × (s.policy ≡ o.breaks) × (s.measure ≡ o.measure) × (s.tally ≡ 0)
