@@ -1,5 +1,5 @@
 -- What a sheet answers of a row, and the row as the clean sheet shows it.
-use Rattle.std.proofs.Common.{◌≡◌, ℕ, zero, suc, ◌+◌, ◌-◌, ◌≤◌, min, List, [], ◌∷◌, map, length, take, drop, Some, None, Option, sym, refl, ap, ◌∙◌, subst, inl, inr, arith, length-drop, length-take, le-leb}
+use Rattle.std.proofs.Common.{◌≡◌, ℕ, zero, suc, ◌+◌, ◌-◌, ◌≤◌, min, List, [], ◌∷◌, map, length, take, drop, Some, None, Option, sym, refl, ap, ◌∙◌, inl, inr, arith, length-drop, length-take, le-leb}
 use borrow.Author.Tests.{lt-leb}
 use Rattle.std.proofs.lemmas.List.{take_at}
 use Rattle.std.proofs.lemmas.Bool.{cases_lt}
@@ -67,7 +67,7 @@ module _ (k : Making) (h : History) (s : State) (f : Follows k h s) (i : ℕ) wh
   at_screen o e = slice_get-map (shown_of k.meaning (clean_after k h).text) (clean_rows k (clean_after k h)) i ∙ ap (option_map (shown_of k.meaning (clean_after k h).text)) e
 
   lies : (r : Row) → slice_get (clean_rows k (clean_after k h)) i ≡ Some r → Inside (clean_after k h).text r
-  lies r e = subst (λ (t : List ℕ). Inside t r) f.text (inside k h s f i [] r (ap (λ (rs : List Row). slice_get rs i) f.rows ∙ e))
+  lies r e = inside {k = record { meaning = k.meaning; rules = k.rules; measure = (clean_after k h).measure }} (record { covered = f.covered; first_fit = refl }) i r e
 
   roomy : (b : List ℕ) → most_characters ≤ length b → (r : Row) → slice_get (clean_rows k (clean_after k h)) i ≡ Some r → r.end - r.start ≤ length b
   roomy b n r e = omega (arith, (lies r e).within, f.few)

@@ -21,9 +21,8 @@ pub(crate) fn paint_rows<M: Measurer, P: Policy>(
     from: usize,
     put: usize,
 ) -> Result<Vec<ShownRow>, AllocError>
-    ensures follows { (k : Making) (h : History) → Follows k h (state M.meaning P.rules sheet.old) → Follows k h (state M.meaning P.rules sheet.new) }
-    ensures counted { sheet.new.setter.tally ≡ sheet.old.setter.tally }
-    ensures value { (k : Making) (h : History) → Follows k h (state M.meaning P.rules sheet.old) → IfOk result (λ v. map shown_row v.items ≡ take put (drop from (clean_screen k (clean_after k h)))) }
+    ensures same { state sheet.new ≡ state sheet.old }
+    ensures value { (k : Making) (h : History) → Follows k h (state sheet.old) → IfOk result (λ v. map shown_row v.items ≡ take put (drop from (clean_screen k (clean_after k h)))) }
 {
     let mut painted = Vec::new(heap);
     'rows: for number in from..from.saturating_add(put) {
@@ -42,9 +41,8 @@ fn paint_row<M: Measurer, P: Policy>(
     sheet: &mut Sheet<M, P>,
     number: usize,
 ) -> Result<Option<ShownRow>, AllocError>
-    ensures follows { (k : Making) (h : History) → Follows k h (state M.meaning P.rules sheet.old) → Follows k h (state M.meaning P.rules sheet.new) }
-    ensures counted { sheet.new.setter.tally ≡ sheet.old.setter.tally }
-    ensures value { (k : Making) (h : History) → Follows k h (state M.meaning P.rules sheet.old) → IfOk result (λ o. option_map shown_row o ≡ slice_get (clean_screen k (clean_after k h)) number) }
+    ensures same { state sheet.new ≡ state sheet.old }
+    ensures value { (k : Making) (h : History) → Follows k h (state sheet.old) → IfOk result (λ o. option_map shown_row o ≡ slice_get (clean_screen k (clean_after k h)) number) }
 {
     let mut chars = [0; MAX_CHARACTERS];
     let mut edges = [0; MAX_CHARACTERS];

@@ -43,11 +43,10 @@ impl Screen {
         sheet: &mut Sheet<M, P>,
         record: &Repaint,
     ) -> Result<(), AllocError>
-        ensures painted { (k : Making) (h : History) → Follows k h (state M.meaning P.rules sheet.old) → OnOk result (view self.new ≡ followed «record».now (clean_screen k (clean_after k h)) (view self.old)) }
-        ensures shows { (k : Making) (h : History) (e : Event) → e.answer ≡ settled «record».now → Follows k (e ∷ h) (state M.meaning P.rules sheet.old) → view self.old ≡ screen_after k h → OnOk result ((view self.new ≡ screen_after k (e ∷ h)) × (view self.new ≡ clean_screen k (clean_after k (e ∷ h)))) }
+        ensures painted { (k : Making) (h : History) → Follows k h (state sheet.old) → OnOk result (view self.new ≡ followed «record».now (clean_screen k (clean_after k h)) (view self.old)) }
+        ensures shows { (k : Making) (h : History) (e : Event) → e.answer ≡ settled «record».now → Follows k (e ∷ h) (state sheet.old) → view self.old ≡ screen_after k h → OnOk result ((view self.new ≡ screen_after k (e ∷ h)) × (view self.new ≡ clean_screen k (clean_after k (e ∷ h)))) }
         ensures kept { OnErr result (view self.new ≡ view self.old) }
-        ensures follows { (k : Making) (h : History) → Follows k h (state M.meaning P.rules sheet.old) → Follows k h (state M.meaning P.rules sheet.new) }
-        ensures counted { sheet.new.setter.tally ≡ sheet.old.setter.tally }
+        ensures same { state sheet.new ≡ state sheet.old }
     {
         let shown = self.rows.len();
         let (from, removed, put) = if record.whole {

@@ -76,7 +76,7 @@ pub as_it_was : (s : State) → Owes s s s.owed
 as_it_was s = record { meaning = refl; rules = refl; measure = refl; text = refl; rows = refl; owed = refl }
 
 module _ (k : Making) (h : History) (s s' : State) (f : Follows k h s) where
-  keeps_up : (o o' : Option Repaint) → Owes s s' o → o ≡ o' → KeepsUp k (record { text = (clean_after k h).text; measure = (clean_after k h).measure; owed = o' }) s s'
+  pub keeps_up : (o o' : Option Repaint) → Owes s s' o → o ≡ o' → KeepsUp k (record { text = (clean_after k h).text; measure = (clean_after k h).measure; owed = o' }) s s'
   keeps_up o o' w e = record {
     meaning = w.meaning;
     rules = w.rules;

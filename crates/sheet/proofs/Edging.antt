@@ -1,6 +1,6 @@
 -- How a clean sheet tells the edges of a row, and that the worked one tells the same.
-use Rattle.std.proofs.Common.{◌≡◌, ℕ, zero, suc, ◌+◌, ◌-◌, ◌<◌, ◌≤◌, List, [], ◌∷◌, length, drop, Some, None, Option, sym, ap, ◌∙◌, subst, subst₂, arith, le-leb}
-use borrow.Author.Tests.{lt-leb}
+use Rattle.std.proofs.Common.{◌≡◌, ℕ, zero, suc, ◌+◌, ◌-◌, ◌<◌, ◌≤◌, leb, List, length, drop, Some, None, Option, Result, sym, refl, ap, ◌∙◌, subst, inl, inr, arith}
+use Rattle.std.proofs.lemmas.Bool.{cases_Bool}
 use Rattle.std.proofs.lemmas.List.{length-take}
 use Rattle.std.specs.List.{slice_get}
 use Rattle.metrics.specs.Meaning.{Meaning}
@@ -12,12 +12,15 @@ use Rattle.layout.specs.Covers.{Covered, AllCovered}
 use Rattle.layout.specs.FirstFit.{RowFrom, RowsFrom}
 use Rattle.layout.specs.FirstFit.RowFrom.{whole, wrapped, cut, single, lone}
 use Rattle.layout.specs.FirstFit.RowsFrom.{end, more}
-use Rattle.reflow.proofs.AllRows.{all_rows}
+use Rattle.layout.specs.Styles.{Style}
 use Rattle.sheet.specs.Clean.{Making, Clean, clean_rows}
-use Rattle.sheet.specs.Clean.Answer.{refused, shown}
 use Rattle.sheet.specs.Edges.{measured, edges_by, edges_step}
+use Rattle.sheet.specs.Faults.{row_answer}
+use Rattle.sheet.specs.Fitting.{fitted}
+use Rattle.sheet.specs.Laid.{Laid}
+use Rattle.sheet.specs.declared.fault.RowFault.{RowFault}
+use Rattle.sheet.proofs.Showing.{in_rows, left}
 use Rattle.sheet.specs.Histories.{History, State, Follows, clean_after}
-use Rattle.sheet.proofs.Continuing.{Owes}
 use Rattle.layout.proofs.EdgeSteps.{seen_part}
 
 module _ (m : Meaning) (P : Rules) (w : ℕ) (t : List ℕ) where
@@ -42,47 +45,24 @@ module _ (m : Meaning) (P : Rules) (w : ℕ) (t : List ℕ) where
   rows_covered v (more {s = s} {r = r} s' f n fs) zero r' e = let is : r ≡ r' = cc in subst (λ (x : Row). AllCovered m (part t x.start x.end)) is (row_covered s r v f)
   rows_covered v (more s' f n fs) (suc i) r' e = rows_covered v fs i r' e
 
--- each way of telling edges, on the clean sheet
-module _ (k : Making) (c : Clean) (edges : List ℕ) where
-  too_short : (r : Row) → length edges < r.end - r.start → edges_by k c (Some r) edges ≡ refused (9 ∷ [])
-  too_short r h = cc (lt-leb (r.end - r.start) (length edges) h)
+-- each row of a laid text is covered
+pub all_covered : {k : Style} {t : List ℕ} {rows : List Row} → Laid k t rows → (i : ℕ) (r : Row) → slice_get rows i ≡ Some r → AllCovered k.meaning (part t r.start r.end)
+all_covered {k = k} {t = t} laid i r e = rows_covered k.meaning k.rules k.measure t laid.covered (in_rows laid) i r e
 
-  tells_them : (r : Row) → r.end - r.start ≤ length edges → edges_by k c (Some r) edges ≡ shown r (measured k.meaning c.text r edges)
-  tells_them r h = cc (le-leb (r.end - r.start) (length edges) h)
+-- how a clean sheet tells edges
+tells : (k : Making) (c : Clean) (b : List ℕ) (o : Option Row) → edges_by k c o b ≡ row_answer (fitted (length b) o) (left (measured k.meaning c.text) (fitted (length b) o) b)
+tells k c b None = refl
+tells k c b (Some r) = elim (cases_Bool (leb (r.end - r.start) (length b))) [ inl t ↦ cc t | inr t ↦ cc t ]
 
-module _ (k : Making) (h : History) (s : State) (f : Follows k h s) where
-  -- a sheet that is as it was, but for what its measurer keeps, has had the same calls
-  pub stays : (s' : State) → Owes s s' s.owed → Follows k h s'
-  stays s' w = record {
-    meaning = w.meaning ∙ f.meaning;
-    rules = w.rules ∙ f.rules;
-    measure = w.measure ∙ f.measure;
-    text = w.text ∙ f.text;
-    owed = w.owed ∙ f.owed;
-    rows = w.rows ∙ f.rows;
-    covered = f.covered;
-    few_rows = f.few_rows;
-    few = f.few;
-    agrees = f.agrees;
-    screen = f.screen;
-  }
+-- a sheet whose measurer means what it meant is in the same state
+pub remeant : {m : Meaning} (s : State) → m ≡ s.meaning → record s { meaning = m } ≡ s
+remeant s e = λ i. record s { meaning = e i }
 
-  module _ (i : ℕ) (edges : List ℕ) where
-    pub no_row : slice_get s.rows i ≡ None → refused (8 ∷ []) ≡ edges_step k (clean_after k h) i edges
-    no_row e = ap (λ (o : Option Row). edges_by k (clean_after k h) o edges) (sym (ap (λ (rs : List Row). slice_get rs i) (sym f.rows) ∙ e))
-
-    module _ (r : Row) (there : slice_get s.rows i ≡ Some r) where
-      at_clean : slice_get (clean_rows k (clean_after k h)) i ≡ Some r
-      at_clean = ap (λ (rs : List Row). slice_get rs i) (sym f.rows) ∙ there
-
-      pub covers : AllCovered s.meaning (part s.text r.start r.end)
-      covers = subst₂ (λ (m : Meaning) (t : List ℕ). AllCovered m (part t r.start r.end)) (sym f.meaning) (sym f.text)
-          (rows_covered k.meaning k.rules (clean_after k h).measure (clean_after k h).text f.covered (all_rows k.meaning k.rules (clean_after k h).measure (clean_after k h).text f.covered) i r at_clean)
-
-      pub short_edges : length edges < r.end - r.start → refused (9 ∷ []) ≡ edges_step k (clean_after k h) i edges
-      short_edges l = sym (ap (λ (o : Option Row). edges_by k (clean_after k h) o edges) at_clean ∙ too_short k (clean_after k h) edges r l)
-
-      pub told_edges : (b : List ℕ) → b ≡ measured s.meaning s.text r edges → r.end - r.start ≤ length edges → shown r b ≡ edges_step k (clean_after k h) i edges
-      told_edges b is l =
-          ap (shown r) (is ∙ (λ j. measured (f.meaning j) (f.text j) r edges))
-          ∙ sym (ap (λ (o : Option Row). edges_by k (clean_after k h) o edges) at_clean ∙ tells_them k (clean_after k h) edges r l)
+pub told_edges : (k : Making) (h : History) (s : State) → Follows k h s → (i : ℕ) (b : List ℕ) (x : Result Row RowFault) → x ≡ fitted (length b) (slice_get s.rows i)
+    → (b' : List ℕ) → b' ≡ left (measured s.meaning s.text) x b → row_answer x b' ≡ edges_step k (clean_after k h) i b
+told_edges k h s f i b x found b' is =
+    let c = clean_after k h in
+    let found' : x ≡ fitted (length b) (slice_get (clean_rows k c) i) = found ∙ ap (λ (rs : List Row). fitted (length b) (slice_get rs i)) f.rows in
+    ap (row_answer x) (is ∙ (λ j. left (measured (f.meaning j) (f.text j)) x b))
+    ∙ ap (λ (y : Result Row RowFault). row_answer y (left (measured k.meaning c.text) y b)) found'
+    ∙ sym (tells k c b (slice_get (clean_rows k c) i))

@@ -1,9 +1,10 @@
 -- How a clean sheet answers a replace, and that a sheet which lays the edited text goes on following it.
-use Rattle.std.proofs.Common.{◌≡◌, ℕ, zero, suc, ◌+◌, ◌-◌, ◌<◌, ◌≤◌, true, false, ◌&&◌, leb, List, [], ◌∷◌, ◌++◌, length, take, drop, is_some, Some, None, Option, sym, refl, ap, ◌∙◌, subst, ap₂, subst₂, inl, inr, arith, le-leb}
+use Rattle.std.proofs.Common.{◌≡◌, ℕ, zero, suc, ◌+◌, ◌-◌, ◌<◌, ◌≤◌, true, false, ◌&&◌, leb, List, [], ◌∷◌, ◌++◌, length, take, drop, is_some, Some, None, Option, Result, MatchResult, sym, refl, ap, ◌∙◌, subst, ap₂, subst₂, inl, inr, arith, le-leb}
 use borrow.Author.Tests.{lt-leb}
 use Rattle.std.proofs.lemmas.List.{length-append, length-take, length-drop}
 use Rattle.std.proofs.lemmas.Bool.{and_from, and_left, and_right, cases_lt}
 use Rattle.metrics.specs.Meaning.{Meaning}
+use Rattle.page.specs.Policies.{Rules}
 use Rattle.page.specs.Texts.{edited, most_characters}
 use Rattle.page.specs.declared.row.Row.{Row}
 use Rattle.layout.proofs.Covering.{covered_from}
@@ -17,10 +18,11 @@ use Rattle.reflow.proofs.ReflowTheorems.{reflow_laws}
 use Rattle.reflow.specs.Edits.{rows_of}
 use Rattle.reflow.specs.Repaints.{repaint_of}
 use Rattle.reflow.specs.Screens.{Shown, followed}
-use Rattle.reflow.specs.Theorems.{Editing}
+use Rattle.reflow.specs.Relaying.{Relaid, RelaidTo}
 use Rattle.reflow.specs.declared.repaint.Repaint.{Repaint}
 use Rattle.sheet.specs.Carried.{replace_fault}
 use Rattle.sheet.specs.Faults.{Early}
+use Rattle.sheet.specs.Laid.{Laid}
 use Rattle.sheet.specs.Clean.{Making, Clean, clean_rows, refuse, replaced, replace_step, edit_of}
 use Rattle.sheet.specs.Clean.Answer.{accepted, refused}
 use Rattle.sheet.specs.Clean.Call.{replace}
@@ -100,44 +102,62 @@ pub record Lays (s s' : State) (at del : ℕ) (ins : List ℕ) (p : Repaint) : T
   pub owed : s'.owed ≡ Some p
   pub painted : p ≡ repaint_of (edit_of at del ins) s.rows (rows_of s.meaning s.rules s.measure (edited s.text at del ins))
 
--- a place within the sheet's text, for an insertion that it covers and has room for
-pub editing : (k : Making) (h : History) (s : State) → Follows k h s → (at del : ℕ) (ins : List ℕ) → at ≤ length s.text → del ≤ length s.text - at → first_uncovered s.meaning 0 ins ≡ None → Editing s.meaning s.rules s.measure s.text ins (edit_of at del ins)
-editing k h s f at del ins in-text in_rest e = record {
-  within = omega arith;
-  long = refl;
-  covered = subst₂ Covered (sym f.meaning) (sym f.text) f.covered;
-  covers = covered_edited s.meaning s.text at del ins (subst₂ Covered (sym f.meaning) (sym f.text) f.covered) e;
-}
+-- an edit within the text, of whose insertion all characters have glyphs, and after which the text is not too long
+pub record Admits (m : Meaning) (t : List ℕ) (at del : ℕ) (ins : List ℕ) : Type 0 where
+  pub in_text : at ≤ length t
+  pub in_rest : del ≤ length t - at
+  pub fits : length t - del + length ins ≤ most_characters
+  pub glyphs : first_uncovered m 0 ins ≡ None
 
-module _ (k : Making) (h : History) (s s' : State) (f : Follows k h s) (at del : ℕ) (ins : List ℕ) where
-  pub replaced_call : (p : Repaint) → s.owed ≡ None → at ≤ length s.text → del ≤ length s.text - at → length s.text - del + length ins ≤ most_characters
-      → first_uncovered s.meaning 0 ins ≡ None → Lays s s' at del ins p → Follows k (event (replace at del ins) accepted s' ∷ h) s'
-  replaced_call p none in-text in_rest fits glyphs l =
+-- what relaying a laid text after an edit comes to. The insertion was looked over before, which left the
+-- meaning m as it was
+pub laid_anew : {m m' : Meaning} {P : Rules} {w : ℕ} {t t' : List ℕ} {old old' : List Row} {at del : ℕ} {ins : List ℕ} (r : Result Repaint LayFault) (rows : List Row) (before after : ℕ)
+    → Laid (record { meaning = m; rules = P; measure = w }) t old → m' ≡ m → Admits m t at del ins
+    → t' ≡ edited t at del ins → old' ≡ old → Relaid m' P w t' (edit_of at del ins) old' r rows before after
+    → MatchResult r (λ p. RelaidTo (edit_of at del ins) old (rows_of m P w (edited t at del ins)) p rows before after) (λ f. (f ≡ TooManyRows) × (most_rows < length (rows_of m P w (edited t at del ins))))
+laid_anew {m = m} {P = P} {w = w} {t = t} {old = old} {at = at} {del = del} {ins = ins} r rows before after laid same a becomes is relaid =
+    let to : Relaid m P w (edited t at del ins) (edit_of at del ins) old r rows before after =
+    coe 0 1 (i. Relaid (same i) P w (becomes i) (edit_of at del ins) (is i) r rows before after) relaid in
+    to t ins refl (record { within = omega (arith, a.in_text, a.in_rest); long = refl; covered = laid.covered; covers = covered_edited m t at del ins laid.covered a.glyphs }) laid.first_fit
+
+module _ (k : Making) (h : History) (s s' : State) (f : Follows k h s) (at del : ℕ) (ins : List ℕ) (none : s.owed ≡ None) (a : Admits s.meaning s.text at del ins) where
+  at_clean : Admits k.meaning (clean_after k h).text at del ins
+  at_clean = subst₂ (λ (m : Meaning) (t : List ℕ). Admits m t at del ins) f.meaning f.text a
+
+  same_rows : rows_of s.meaning s.rules s.measure (edited s.text at del ins) ≡ clean_rows k (replaced k (clean_after k h) at del ins)
+  same_rows = λ i. rows_of (f.meaning i) (f.rules i) (f.measure i) (edited (f.text i) at del ins)
+
+  pub refused_many : most_rows < length (rows_of s.meaning s.rules s.measure (edited s.text at del ins)) → Owes s s' s.owed → Follows k (event (replace at del ins) (refused (5 ∷ [])) s' ∷ h) s'
+  unfolding same_rows
+  refused_many many w =
+      let a' = at_clean in
+      refused_call k h s s' f (replace at del ins) (5 ∷ [])
+      (too_many k (clean_after k h) at del ins (sym f.owed ∙ none) a'.in_text a'.in_rest a'.fits a'.glyphs (subst (λ (rs : List Row). most_rows < length rs) same_rows many)) w
+
+  pub replaced_call : (p : Repaint) → Lays s s' at del ins p → Follows k (event (replace at del ins) accepted s' ∷ h) s'
+  unfolding same_rows
+  replaced_call p l =
       let c = clean_after k h in
+      let a' = at_clean in
       let owes : c.owed ≡ None = sym f.owed ∙ none in
-      let in_text' : at ≤ length c.text = subst (λ (t : List ℕ). at ≤ length t) f.text in-text in
-      let in_rest' : del ≤ length c.text - at = subst (λ (t : List ℕ). del ≤ length t - at) f.text in_rest in
-      let fits' : length c.text - del + length ins ≤ most_characters = subst (λ (t : List ℕ). length t - del + length ins ≤ most_characters) f.text fits in
-      let glyphs' : first_uncovered k.meaning 0 ins ≡ None = ap (λ (m : Meaning). first_uncovered m 0 ins) (sym f.meaning) ∙ glyphs in
-      let same : rows_of s.meaning s.rules s.measure (edited s.text at del ins) ≡ clean_rows k (replaced k c at del ins) = λ i. rows_of (f.meaning i) (f.rules i) (f.measure i) (edited (f.text i) at del ins) in
-      let few : length (clean_rows k (replaced k c at del ins)) ≤ most_rows = subst (λ (rs : List Row). length rs ≤ most_rows) same l.few_rows in
-      let covers : Covered k.meaning (edited c.text at del ins) = covered_edited k.meaning c.text at del ins f.covered glyphs' in
+      let few : length (clean_rows k (replaced k c at del ins)) ≤ most_rows = subst (λ (rs : List Row). length rs ≤ most_rows) same_rows l.few_rows in
+      let covers : Covered k.meaning (edited c.text at del ins) = covered_edited k.meaning c.text at del ins f.covered a'.glyphs in
       let shown-so-far : screen_after k h ≡ clean_screen k c = ap (λ (o : Option Repaint). due o (clean_screen k c) (screen_after k h)) (sym owes) ∙ f.screen in
       goes_on_by k h s s' (replace at del ins) accepted (record { next = replaced k c at del ins; answer = accepted })
-      (accepts k c at del ins owes in_text' in_rest' fits' glyphs' few) f refl
+      (accepts k c at del ins owes a'.in_text a'.in_rest a'.fits a'.glyphs few) f refl
       (record {
         meaning = l.meaning;
         rules = l.rules;
         measure = l.measure ∙ f.measure;
         text = l.text ∙ ap (λ (t : List ℕ). edited t at del ins) f.text;
-        owed = l.owed ∙ ap Some (l.painted ∙ ap₂ (repaint_of (edit_of at del ins)) f.rows same);
-        rows = l.rows ∙ same;
+        owed = l.owed ∙ ap Some (l.painted ∙ ap₂ (repaint_of (edit_of at del ins)) f.rows same_rows);
+        rows = l.rows ∙ same_rows;
         covered = covers;
         few_rows = few;
-        few = long_enough c in_text' in_rest' fits';
+        few = long_enough c a'.in_text a'.in_rest a'.fits;
       })
       (ap (λ (x : List Shown). followed (repaint_of (edit_of at del ins) (clean_rows k c) (clean_rows k (replaced k c at del ins))) (clean_screen k (replaced k c at del ins)) x) shown-so-far
-      ∙ (reflow_laws k.meaning k.rules c.measure).repaint c.text ins (edit_of at del ins) (record { within = omega arith; long = refl; covered = f.covered; covers = covers }))
+      ∙ (reflow_laws k.meaning k.rules c.measure).repaint c.text ins (edit_of at del ins) (record { within = omega (arith, a'.in_text, a'.in_rest); long = refl; covered = f.covered; covers = covers }))
     where
       long_enough : (c : Clean) → at ≤ length c.text → del ≤ length c.text - at → length c.text - del + length ins ≤ most_characters → length (edited c.text at del ins) ≤ most_characters
       long_enough c a b e = simp (length-append, length-take, length-drop) (omega arith)
@@ -186,18 +206,6 @@ module _ (k : Making) (h : History) (s s' : State) (f : Follows k h s) (at del :
         refused_glyph u e =
             refused_call k h s s' f (replace at del ins) (told u)
             (no_glyph k (clean_after k h) at del ins free in_text' in_rest' fits' u (ap (λ (m : Meaning). first_uncovered m 0 ins) (sym f.meaning) ∙ e)) w
-
-        pub refused_many : first_uncovered s.meaning 0 ins ≡ None → most_rows < length (rows_of s.meaning s.rules s.measure (edited s.text at del ins)) → Follows k (event (replace at del ins) (refused (5 ∷ [])) s' ∷ h) s'
-        refused_many e many =
-            let same : rows_of s.meaning s.rules s.measure (edited s.text at del ins) ≡ clean_rows k (replaced k (clean_after k h) at del ins) = λ i. rows_of (f.meaning i) (f.rules i) (f.measure i) (edited (f.text i) at del ins) in
-            refused_call k h s s' f (replace at del ins) (5 ∷ [])
-            (too_many k (clean_after k h) at del ins free in_text' in_rest' fits' (ap (λ (m : Meaning). first_uncovered m 0 ins) (sym f.meaning) ∙ e) (subst (λ (rs : List Row). most_rows < length rs) same many)) w
-
--- the rows of a sheet are those of its own text
-pub own_rows : (k : Making) (h : History) (s : State) → Follows k h s → s.rows ≡ rows_of s.meaning s.rules s.measure s.text
-own_rows k h s f =
-    let same : rows_of s.meaning s.rules s.measure s.text ≡ clean_rows k (clean_after k h) = λ i. rows_of (f.meaning i) (f.rules i) (f.measure i) (f.text i) in
-    f.rows ∙ sym same
 
 -- a fault of the layout is no early one
 pub never_early : (e : LayFault) → Early (replace_fault e) → ⊥

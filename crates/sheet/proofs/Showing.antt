@@ -1,6 +1,6 @@
 -- How a clean sheet shows a row, and that the worked one shows the same.
-use Rattle.std.proofs.Common.{◌≡◌, ℕ, zero, suc, ◌-◌, ◌<◌, ◌≤◌, List, [], ◌∷◌, length, Some, None, Option, sym, refl, ap, ◌∙◌, subst, arith, le-leb}
-use borrow.Author.Tests.{lt-leb}
+use Rattle.std.proofs.Common.{◌≡◌, ℕ, zero, suc, ◌-◌, ◌<◌, ◌≤◌, leb, List, ◌∷◌, length, Some, None, Option, Ok, Err, Result, sym, refl, ap, ◌∙◌, subst, inl, inr, arith}
+use Rattle.std.proofs.lemmas.Bool.{cases_Bool, cases_lt, le-leb, lt-leb}
 use Rattle.std.specs.List.{slice_get}
 use Rattle.metrics.specs.Meaning.{Meaning}
 use Rattle.page.specs.Policies.{Rules}
@@ -8,13 +8,19 @@ use Rattle.page.specs.declared.row.Row.{Row}
 use Rattle.layout.proofs.Following.{placed}
 use Rattle.layout.specs.FirstFit.{RowFrom, RowsFrom}
 use Rattle.layout.specs.FirstFit.RowsFrom.{end, more}
+use Rattle.layout.specs.Styles.{Style}
 use Rattle.reflow.proofs.AllRows.{all_rows}
 use Rattle.reflow.proofs.ScreenBack.{row_upto}
-use Rattle.sheet.specs.Clean.{Making, Clean, clean_rows, refuse, show_by, copied}
-use Rattle.sheet.specs.Clean.Answer.{refused, shown}
+use Rattle.reflow.specs.Screens.{painted}
+use Rattle.sheet.specs.Clean.{Making, Clean, clean_rows, show_by, copied}
 use Rattle.sheet.specs.Clean.Call.{row}
-use Rattle.sheet.specs.Histories.{History, State, Follows, clean_after, event}
-use Rattle.sheet.proofs.Continuing.{as_it_was, goes_on_by, refused_call}
+use Rattle.sheet.specs.Faults.{row_answer}
+use Rattle.sheet.specs.Fitting.{fitted}
+use Rattle.sheet.specs.Histories.{History, State, Follows, clean_after, clean_screen, screen_after, due, event, follows}
+use Rattle.sheet.specs.Laid.{Laid}
+use Rattle.sheet.specs.declared.fault.RowFault.{RowFault}
+use Rattle.sheet.specs.declared.fault.RowFault.TheVariants.{ShortBuffer}
+use Rattle.sheet.proofs.Continuing.{as_it_was, goes_on_by, keeps_up}
 
 -- a row lies within its text
 pub record Inside (t : List ℕ) (r : Row) : Type 0 where
@@ -31,42 +37,46 @@ module _ (m : Meaning) (P : Rules) (w : ℕ) (t : List ℕ) where
   rows_inside (more {s = s} {r = r} s' f n fs) zero r' e = let is : r ≡ r' = cc in subst (Inside t) is (row_inside s r f)
   rows_inside (more s' f n fs) (suc i) r' e = rows_inside fs i r' e
 
--- each way of showing a row, on the clean sheet
-module _ (c : Clean) (buffer : List ℕ) where
-  too_short : (r : Row) → length buffer < r.end - r.start → show_by c (Some r) buffer ≡ refuse c (9 ∷ [])
-  too_short r h = cc (lt-leb (r.end - r.start) (length buffer) h)
+-- the rows of a laid text are its rows by first fit
+pub in_rows : {k : Style} {t : List ℕ} {rows : List Row} → Laid k t rows → RowsFrom k.meaning k.rules k.measure t 0 rows
+in_rows {k = k} {t = t} laid = subst (RowsFrom k.meaning k.rules k.measure t 0) (sym laid.first_fit) (all_rows k.meaning k.rules k.measure t laid.covered)
 
-  shows_it : (r : Row) → r.end - r.start ≤ length buffer → show_by c (Some r) buffer ≡ record { next = c; answer = shown r (copied c.text r buffer) }
-  shows_it r h = cc (le-leb (r.end - r.start) (length buffer) h)
+-- each row of a laid text lies within it
+pub inside : {k : Style} {t : List ℕ} {rows : List Row} → Laid k t rows → (i : ℕ) (r : Row) → slice_get rows i ≡ Some r → Inside t r
+inside {k = k} {t = t} {rows = rows} laid i r e = rows_inside k.meaning k.rules k.measure t (in_rows laid) i r e
 
-module _ (k : Making) (h : History) (s : State) (f : Follows k h s) (i : ℕ) (buffer : List ℕ) where
-  pub no_such_row : slice_get s.rows i ≡ None → Follows k (event (row i buffer) (refused (8 ∷ [])) s ∷ h) s
-  no_such_row e = refused_call k h s s f (row i buffer) (8 ∷ []) (ap (λ (o : Option Row). show_by (clean_after k h) o buffer) (ap (λ (rs : List Row). slice_get rs i) (sym f.rows) ∙ e)) (as_it_was s)
+-- a row is found where there is room for it, and only there
+pub has_room : (room : ℕ) (r : Row) → r.end - r.start ≤ room → Ok r ≡ fitted room (Some r)
+has_room room r l = cc (le-leb (r.end - r.start) room l)
 
-  module _ (r : Row) (there : slice_get s.rows i ≡ Some r) where
-    at_clean : slice_get (clean_rows k (clean_after k h)) i ≡ Some r
-    at_clean = ap (λ (rs : List Row). slice_get rs i) (sym f.rows) ∙ there
+pub lacks_room : (room : ℕ) (r : Row) → room < r.end - r.start → Err ShortBuffer ≡ fitted room (Some r)
+lacks_room room r l = cc (lt-leb (r.end - r.start) room l)
 
-    pub inside : Inside s.text r
-    inside = subst (λ (t : List ℕ). Inside t r) (sym f.text) (rows_inside k.meaning k.rules (clean_after k h).measure (clean_after k h).text (all_rows k.meaning k.rules (clean_after k h).measure (clean_after k h).text f.covered) i r at_clean)
+-- a row that was found is there, and there is room for it
+pub found : (room : ℕ) (o : Option Row) (r : Row) → Ok r ≡ fitted room o → (o ≡ Some r) × (r.end - r.start ≤ room)
+found room None r e = let z : ◌≡◌ {A = ℕ} 0 1 = cc in absurd (omega arith)
+found room (Some x) r e = elim (cases_lt room (x.end - x.start)) [
+  | inl l ↦ let z : ◌≡◌ {A = ℕ} 0 1 = cc (lt-leb (x.end - x.start) room l) in absurd (omega arith)
+  | inr l ↦ let is : x ≡ r = cc (le-leb (x.end - x.start) room l) in (ap Some is, subst (λ (y : Row). y.end - y.start ≤ room) is l)
+]
 
-    pub short_buffer : length buffer < r.end - r.start → Follows k (event (row i buffer) (refused (9 ∷ [])) s ∷ h) s
-    short_buffer l = refused_call k h s s f (row i buffer) (9 ∷ []) (ap (λ (o : Option Row). show_by (clean_after k h) o buffer) at_clean ∙ too_short (clean_after k h) buffer r l) (as_it_was s)
+-- what a call that finds a row leaves in the caller's buffer, where it puts what `put` says of the row
+abbrev pub left : (Row → List ℕ → List ℕ) → Result Row RowFault → List ℕ → List ℕ
+left put (Ok r) b = put r b
+left put (Err e) b = b
 
-    pub shown_row : (b : List ℕ) → b ≡ copied s.text r buffer → r.end - r.start ≤ length buffer → Follows k (event (row i buffer) (shown r b) s ∷ h) s
-    shown_row b is l =
-        goes_on_by k h s s (row i buffer) (shown r b) (record { next = clean_after k h; answer = shown r (copied (clean_after k h).text r buffer) })
-        (ap (λ (o : Option Row). show_by (clean_after k h) o buffer) at_clean ∙ shows_it (clean_after k h) buffer r l) f
-        (ap (shown r) (is ∙ ap (λ (t : List ℕ). copied t r buffer) f.text))
-        (record {
-          meaning = refl;
-          rules = refl;
-          measure = f.measure;
-          text = f.text;
-          owed = f.owed;
-          rows = f.rows;
-          covered = f.covered;
-          few_rows = f.few_rows;
-          few = f.few;
-        })
-        f.screen
+-- how a clean sheet shows a row
+shows : (c : Clean) (b : List ℕ) (o : Option Row) → show_by c o b ≡ record { next = c; answer = row_answer (fitted (length b) o) (left (copied c.text) (fitted (length b) o) b) }
+shows c b None = refl
+shows c b (Some r) = elim (cases_Bool (leb (r.end - r.start) (length b))) [ inl t ↦ cc t | inr t ↦ cc t ]
+
+module _ (k : Making) (h : History) (s : State) (f : Follows k h s) (i : ℕ) (b : List ℕ) where
+  pub shown_row : (x : Result Row RowFault) → x ≡ fitted (length b) (slice_get s.rows i) → (b' : List ℕ) → b' ≡ left (copied s.text) x b
+      → Follows k (event (row i b) (row_answer x b') s ∷ h) s
+  shown_row x found b' is =
+      let c = clean_after k h in
+      let found' : x ≡ fitted (length b) (slice_get (clean_rows k c) i) = found ∙ ap (λ (rs : List Row). fitted (length b) (slice_get rs i)) f.rows in
+      goes_on_by k h s s (row i b) (row_answer x b') _ (shows c b (slice_get (clean_rows k c) i)) f
+      (ap (row_answer x) (is ∙ ap (λ (t : List ℕ). left (copied t) x b) f.text) ∙ ap (λ (y : Result Row RowFault). row_answer y (left (copied c.text) y b)) found')
+      (keeps_up k h s s f s.owed c.owed (as_it_was s) f.owed)
+      (elim x as (λ (y : Result Row RowFault). due c.owed (clean_screen k c) (follows (row_answer y b') (painted k.meaning s.text s.rows) (screen_after k h)) ≡ clean_screen k c) [ Ok r ↦ f.screen | Err e ↦ f.screen ])

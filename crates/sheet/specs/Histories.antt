@@ -1,5 +1,5 @@
 -- What came of a sheet's calls, call by call. The worked sheet is the one in the code, beside the clean one.
-use Rattle.std.specs.Prelude.{◌≡◌, ℕ, ◌≤◌, List, [], ◌∷◌, ◌++◌, length, Some, None, Option}
+use Rattle.std.specs.Prelude.{◌≡◌, ℕ, ◌+◌, ◌%◌, ◌^◌, ◌≤◌, List, [], ◌∷◌, ◌++◌, length, Some, None, Option}
 use Rattle.metrics.specs.Meaning.{Meaning}
 use Rattle.page.specs.Policies.{Rules}
 use Rattle.page.specs.Texts.{most_characters}
@@ -64,7 +64,7 @@ abbrev pub due : Option Repaint → List Shown → List Shown → List Shown
 due None sheet screen = screen
 due (Some p) sheet screen = followed p sheet screen
 
--- what a worked sheet is, apart from its tally
+-- what a worked sheet is; the tally is how many rows it broke, modulo 2^64
 pub record State : Type 0 where
   pub meaning : Meaning
   pub rules : Rules
@@ -72,6 +72,11 @@ pub record State : Type 0 where
   pub text : List ℕ
   pub rows : List Row
   pub owed : Option Repaint
+  pub tally : ℕ
+
+-- the tally counts the rows that the owed record says were broken
+abbrev pub Counted : State → State → Type 0
+Counted s s' = (p : Repaint) → s'.owed ≡ Some p → s'.tally ≡ (s.tally + p.broken) % 2 ^ 64
 
 -- a sheet that was made so and has had these calls
 pub record Follows (k : Making) (h : History) (s : State) : Type 0 where

@@ -9,7 +9,7 @@ use page::policy::Policy;
 // Each call of a sheet promises that the sheet goes on following the clean one. This says what that
 // comes to over any sequence of calls.
 pub fn law<M: Measurer, P: Policy>(sheet: &Sheet<M, P>)
-    ensures { Lawful (state M.meaning P.rules sheet.now) }
+    ensures { Lawful (state sheet.now) }
 {
     let _ = sheet;
 }

@@ -12,31 +12,23 @@ use layout::edges::write_edges;
 use metrics::measurer::Measurer;
 use page::policy::Policy;
 use page::row::Row;
-use page::text::Characters;
 
 impl<M: Measurer, P: Policy> Sheet<M, P> {
     // Writes the edge behind each character of a row to the front of `edges`, and answers the row's
     // record.
     pub fn edges(&mut self, number: usize, edges: &mut [u32]) -> Result<Row, RowFault>
-        ensures follows { (k : Making) (h : History) → Follows k h (state M.meaning P.rules self.old) → Follows k h (state M.meaning P.rules self.new) }
-        ensures value { (k : Making) (h : History) → Follows k h (state M.meaning P.rules self.old) → row_answer result edges.new ≡ edges_step k (clean_after k h) number edges.old }
+        ensures same { state self.new ≡ state self.old }
+        ensures value { (k : Making) (h : History) → Follows k h (state self.old) → row_answer result edges.new ≡ edges_step k (clean_after k h) number edges.old }
         ensures kept { OnErr result ((edges.new ≡ edges.old) × (self.new ≡ self.old)) }
-        ensures counted { self.new.setter.tally ≡ self.old.setter.tally }
-        ensures text { self.new.text ≡ self.old.text }
-        ensures rows { self.new.rows ≡ self.old.rows }
-        ensures owed { self.new.owed ≡ self.old.owed }
     {
-        let rows = self.rows.as_slice();
-        if number >= rows.len() {
-            return Err(RowFault::NoSuchRow);
-        }
-        let row = rows[number];
-        let end = row.end.min(self.text.len());
-        let start = row.start.min(end);
-        if end - start > edges.len() {
-            return Err(RowFault::ShortBuffer);
-        }
-        write_edges(&self.text, &mut self.setter.measurer, start, end, edges);
+        let row = self.fitting_row(number, edges.len())?;
+        write_edges(
+            &self.text,
+            &mut self.setter.measurer,
+            row.start,
+            row.end,
+            edges,
+        );
         Ok(row)
     }
 }

@@ -5,22 +5,19 @@ use Rattle.screen.proofs.painting.paint_row.Goals as goal
 
 pub returns-in_default : goal.returns-in_default
 returns-in_default g c = record {
-  follows = λ k h f. f;
-  counted = refl;
+  same = refl;
   value = λ k h f. none_there k h _ f c.args.number _ _ (omega arith) (c.in_default.ensures.follows k h f).agrees.0.answer;
 }
 
 pub returns-in_default-edges : goal.returns-in_default-edges
 returns-in_default-edges g c = record {
-  follows = λ k h f. c.edges.ensures.follows k h f;
-  counted = c.edges.ensures.counted;
+  same = c.edges.ensures.same;
   value = λ k h f. none_measured k h _ f c.args.number _ _ (omega arith) (c.in_default-edges.ensures.value k h f);
 }
 
 pub returns : goal.returns
 returns g c = record {
-  follows = λ k h f. c.edges.ensures.follows k h f;
-  counted = c.edges.ensures.counted;
+  same = c.edges.ensures.same;
   value = λ k h f.
       let n = c.min-len.result in
       let told = (c.in-Ok.ensures.follows k h f).agrees.0.answer in

@@ -1,9 +1,9 @@
-use Rattle.std.proofs.Common.{[], map, vec_items, sym, ap, ◌∙◌, arith}
+use Rattle.std.proofs.Common.{[], map, vec_items, sym, ap, ◌∙◌, subst, arith}
 use Rattle.std.proofs.lemmas.List.{length-map}
 use Rattle.std.specs.Option.{option_map}
 use Rattle.page.specs.declared.ending.Ending.TheVariants.{End}
 use Rattle.reflow.specs.Screens.{Shown}
-use Rattle.sheet.specs.Histories.{clean_after, clean_screen}
+use Rattle.sheet.specs.Histories.{Follows, clean_after, clean_screen}
 use Rattle.screen.specs.Views.{shown_row}
 use Rattle.screen.proofs.Gathered.{row_more, rows_end, rows_all}
 use Rattle.screen.proofs.painting.paint_rows.Goals as goal
@@ -13,11 +13,10 @@ pub rows-preserved : goal.rows-preserved
 rows-preserved g c =
     let inv = c.rows.invariant in
     let told = c.in_ok-row.ensures in (
-      (λ k h f. told.follows k h (inv.0 k h f)),
-      told.counted ∙ inv.1,
+      told.same ∙ inv.0,
       (λ k h f.
           ap (map shown_row) c.in_ok-push.ensures.items
-          ∙ row_more (clean_screen k (clean_after k h)) c.args.from c.rows.number (vec_items c.rows.painted) c.in-Some.row (omega arith) (inv.2 k h f) (ap (option_map shown_row) (sym c.in-Some.is) ∙ told.value k h (inv.0 k h f))),
+          ∙ row_more (clean_screen k (clean_after k h)) c.args.from c.rows.number (vec_items c.rows.painted) c.in-Some.row (omega arith) (inv.1 k h f) (ap (option_map shown_row) (sym c.in-Some.is) ∙ told.value k h (subst (Follows k h) (sym inv.0) f))),
     )
 
 pub returns : goal.returns
@@ -26,16 +25,14 @@ returns g c =
     elim c.rows-test.branch [
       | else-rows-test w ↦
           record {
-            follows = rw w.sheet-is inv.0;
-            counted = rw w.sheet-is inv.1;
-            value = λ k h f. inv.2 k h f ∙ rows_all (clean_screen k (clean_after k h)) c.args.from c.rows.number c.args.put (omega arith) (rw length-map f.few_rows) (let up = c.rows.auto.number-end (omega arith) in omega arith);
+            same = rw w.sheet-is inv.0;
+            value = λ k h f. inv.1 k h f ∙ rows_all (clean_screen k (clean_after k h)) c.args.from c.rows.number c.args.put (omega arith) (rw length-map f.few_rows) (let up = c.rows.auto.number-end (omega arith) in omega arith);
           }
       | then-rows-test+in_ok-row+in_default w ↦
           let told = w.in_ok-row.ensures in
           record {
-            follows = rw w.sheet-is (λ k h f. told.follows k h (inv.0 k h f));
-            counted = rw w.sheet-is (told.counted ∙ inv.1);
-            value = λ k h f. inv.2 k h f ∙ rows_end (clean_screen k (clean_after k h)) c.args.from c.rows.number c.args.put empty (omega arith) (ap (option_map shown_row) (sym w.in_default.is) ∙ told.value k h (inv.0 k h f));
+            same = rw w.sheet-is (told.same ∙ inv.0);
+            value = λ k h f. inv.1 k h f ∙ rows_end (clean_screen k (clean_after k h)) c.args.from c.rows.number c.args.put empty (omega arith) (ap (option_map shown_row) (sym w.in_default.is) ∙ told.value k h (subst (Follows k h) (sym inv.0) f));
           }
     ]
   where

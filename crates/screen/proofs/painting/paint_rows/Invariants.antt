@@ -8,7 +8,5 @@ use Rattle.screen.proofs.painting.paint_rows.Given as goal
 -- The rows so far are painted, and the sheet is as it was.
 abbrev pub invariant-rows : goal.invariant-rows
 invariant-rows g l =
-    let was = state g.M.Measurer.meaning g.P.Policy.rules l.initial.sheet in
-    ((k : Making) (h : History) → Follows k h was → Follows k h (state g.M.Measurer.meaning g.P.Policy.rules l.sheet))
-    × (l.sheet.setter.tally ≡ l.initial.sheet.setter.tally)
-    × ((k : Making) (h : History) → Follows k h was → map shown_row (vec_items l.painted) ≡ take (l.number - l.from) (drop l.from (clean_screen k (clean_after k h))))
+    (state l.sheet ≡ state l.initial.sheet)
+    × ((k : Making) (h : History) → Follows k h (state l.initial.sheet) → map shown_row (vec_items l.painted) ≡ take (l.number - l.from) (drop l.from (clean_screen k (clean_after k h))))

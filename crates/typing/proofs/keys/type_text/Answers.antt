@@ -27,8 +27,8 @@ keys-preserved g c =
     λ k h f sees.
     let so = c.keys.invariant k h f sees in
     let pressed = c.press.ensures k _ so.0.follows so.0.screen_is in
-    one_more k h c.args.text.now c.keys.place-counter (omega arith) c.keys.effort _ _ so _ _ c.in_ok-broken.broken c.row_count.result (rw is at pressed) c.row_count.ensures.value
+    one_more k h c.args.text.now c.keys.place-counter (omega arith) c.keys.effort _ _ so _ _ c.in_ok-broken.broken c.row_count.result (rw is at pressed) (c.row_count.ensures.value)
 
 pub returns : goal.returns
 returns g c k h f sees =
-    subst (λ (xs : List ℕ). Keys k h xs (Ok c.keys.effort) (state g.M.Measurer.meaning g.P.Policy.rules c.keys.sheet) (view c.keys.screen)) (take_all c.keys.place-counter c.args.text.now (omega arith)) (c.keys.invariant k h f sees)
+    subst (λ (xs : List ℕ). Keys k h xs (Ok c.keys.effort) (state c.keys.sheet) (view c.keys.screen)) (take_all c.keys.place-counter c.args.text.now (omega arith)) (c.keys.invariant k h f sees)

@@ -27,7 +27,7 @@ returns g c =
     let stop : c.min-end.result ≡ min (min (x.0 + x.1) (2 ^ 64 - 1)) (length old) = c.min-end.ensures ∙ ap₂ min c.saturating_add.ensures long in
     let taken : put.1 ≡ new = All-taken put.0 put.1 put.3 ∙ put.2.0 in
     let now : vec_items c.splice.new.self ≡ take (min x.0 (length old)) old ++ (new ++ drop (min (min (x.0 + x.1) (2 ^ 64 - 1)) (length old)) old) = put.4 ∙ (λ j. take (start j) old ++ (taken j ++ drop (stop j) old)) in
-    let painted : (k : Making) (h : History) → Follows k h (state g.M.Measurer.meaning g.P.Policy.rules c.args.sheet.now) → map shown_row (vec_items c.splice.new.self) ≡ followed c.args.record.now (clean_screen k (clean_after k h)) (map shown_row old) = λ k h f.
+    let painted : (k : Making) (h : History) → Follows k h (state c.args.sheet.now) → map shown_row (vec_items c.splice.new.self) ≡ followed c.args.record.now (clean_screen k (clean_after k h)) (map shown_row old) = λ k h f.
     let sheet = clean_screen k (clean_after k h) in
     let screen = map shown_row old in
     let so : map shown_row (vec_items c.splice.new.self) ≡ placed sheet screen x = ap (map shown_row) now ∙ put_in old new few sheet x.0 x.1 x.2 (c.in_ok-painted.ensures.value k h f) in
@@ -43,6 +43,5 @@ returns g c =
           let on = painted k (e ∷ h) f ∙ ap (followed c.args.record.now (clean_screen k (clean_after k (e ∷ h)))) was ∙ goes_on k h e c.args.record.now told _ f in
           (on, on ∙ shows_clean k h e c.args.record.now told _ f);
       kept = tt;
-      follows = c.paint_rows.ensures.follows;
-      counted = c.paint_rows.ensures.counted;
+      same = c.paint_rows.ensures.same;
     }

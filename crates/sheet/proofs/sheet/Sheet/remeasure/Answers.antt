@@ -1,10 +1,10 @@
 -- Each way out is a way of the clean sheet's remeasure.
-use Rattle.std.proofs.Common.{◌≡◌, ℕ, ◌+◌, ◌-◌, ◌%◌, ◌^◌, ◌<◌, true, length, Some, sym, refl, ap, ◌∙◌, subst₂, arith}
+use Rattle.std.proofs.Common.{◌≡◌, ℕ, ◌+◌, ◌-◌, ◌%◌, ◌^◌, ◌<◌, true, length, Some, vec_items, sym, refl, ap, ◌∙◌, arith}
 use Rattle.layout.specs.Styles.{Style}
-use Rattle.layout.specs.Covers.{Covered}
 use Rattle.reflow.specs.Edits.{rows_of}
 use Rattle.reflow.specs.declared.repaint.Repaint.{Repaint}
 use Rattle.sheet.proofs.Remeasuring.{laid_all, all_few, broken_all, grown, laid_right, refused_layout, remeasured_call, refused_owed, refused_many}
+use Rattle.sheet.proofs.Alike.{alike}
 use Rattle.sheet.proofs.Continuing.{as_it_was}
 use Rattle.sheet.proofs.Replacing.{none_owed}
 use Rattle.sheet.proofs.sheet.Sheet.remeasure.Goals as goal
@@ -12,8 +12,8 @@ use Rattle.sheet.proofs.sheet.Sheet.remeasure.Goals as goal
 pub returns-then-is_some : goal.returns-then-is_some
 returns-then-is_some g c = record {
   follows = λ k h f. refused_owed k h _ _ f c.args.measure (sym c.if-is_some.ensures) (as_it_was _);
-  counted = λ k h f. tt;
-  early = λ _. refl;
+  counted = tt;
+  early = λ _. alike _ _;
 }
 
 pub returns-then-is_err : goal.returns-then-is_err
@@ -23,15 +23,21 @@ returns-then-is_err g c =
     let P = g.P.Policy.rules c.args.self.now.setter.policy in
     let w = c.args.measure in
     let t = c.args.self.now.text in
+    let v = c.args.self.now.laid.covered in
     record {
       follows = λ k h f.
-          let v : Covered m t = subst₂ Covered (sym f.meaning) (sym f.text) f.covered in
           refused_many k h _ _ f w none
           (refused_layout m P w t v c.lay-laid.result (sym c.lay-laid.ensures.value) (sym c.if-is_err.ensures.value))
           (record { meaning = ap (λ (x : Style). x.meaning) c.lay-laid.ensures.kept; rules = ap (λ (x : Style). x.rules) c.lay-laid.ensures.kept; measure = refl; text = refl; rows = refl; owed = refl });
-      counted = λ k h f. tt;
+      counted = tt;
       early = λ x. absurd x;
     }
+
+pub invariant_of-self-2 : goal.invariant_of-self-2
+invariant_of-self-2 g c =
+    let old = c.args.self.now.laid in
+    let ok = sym c.lay-laid.ensures.value ∙ laid_right c.lay-laid.result (sym c.is_err.ensures.value ∙ c.if-is_err.false) in
+    record { laid = rw (c.lay-laid.ensures.kept, c.swap.ensures.x_after, c.lay-laid.ensures.items) (record { covered = old.covered; first_fit = laid_all _ _ _ _ old.covered ok }) }
 
 pub returns : goal.returns
 returns g c =
@@ -40,12 +46,12 @@ returns g c =
     let P = g.P.Policy.rules c.args.self.now.setter.policy in
     let w = c.args.measure in
     let t = c.args.self.now.text in
+    let v = c.args.self.now.laid.covered in
     let fits : c.args.self.now.setter.tally < 2 ^ 64 = omega arith in
     let new-len : c.len-2.result ≡ length c.swap.new.x = c.len-2.ensures.value in
     let old-len : c.len.result ≡ length c.args.self.now.rows = c.len.ensures.value ∙ ap length c.swap.ensures.y_after in
     record {
       follows = λ k h f.
-          let v : Covered m t = subst₂ Covered (sym f.meaning) (sym f.text) f.covered in
           let ok = sym c.lay-laid.ensures.value ∙ laid_right c.lay-laid.result (sym c.is_err.ensures.value ∙ c.if-is_err.false) in
           let items : c.swap.new.x ≡ rows_of m P w t = c.swap.ensures.x_after ∙ c.lay-laid.ensures.items ∙ laid_all m P w t v ok in
           let new : c.len-2.result ≡ length (rows_of m P w t) = new-len ∙ ap length items in
@@ -61,8 +67,7 @@ returns g c =
             owed = refl;
             painted = λ i. record { whole = true; from = 0; removed = old-len i; put = new i; broken = broken i };
           });
-      counted = λ k h f p is.
-          let v : Covered m t = subst₂ Covered (sym f.meaning) (sym f.text) f.covered in
+      counted = λ p is.
           let ok = sym c.lay-laid.ensures.value ∙ laid_right c.lay-laid.result (sym c.is_err.ensures.value ∙ c.if-is_err.false) in
           let told = c.lay-laid.ensures.counted ∙ ap (λ (n : ℕ). (c.args.self.now.setter.tally + n) % 2 ^ 64) (broken_all m P w t v ok) in
           let broken : (c.lay-laid.new.self.tally + (2 ^ 64 - c.args.self.now.setter.tally)) % 2 ^ 64 ≡ length (rows_of m P w t) = grown c.args.self.now.setter.tally c.lay-laid.new.self.tally (length (rows_of m P w t)) fits (all_few m P w t v ok) told in
