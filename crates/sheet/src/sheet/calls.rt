@@ -42,13 +42,9 @@ impl<M: Measurer, P: Policy> Sheet<M, P> {
         ensures kept { OnErr result («record».new ≡ «record».old) }
     {
         let Slip { owes: () } = slip;
-        match self.owed.take() {
-            Some(owed) => {
-                *record = owed;
-                Ok(())
-            }
-            None => Err(NothingOwed),
-        }
+        let owed = self.owed.take().ok_or(NothingOwed)?;
+        *record = owed;
+        Ok(())
     }
 
     // The row of that number, if `room` characters can hold it.
@@ -89,7 +85,7 @@ impl<M: Measurer, P: Policy> Sheet<M, P> {
         self.text.len()
     }
 
-    // How many rows were broken since the sheet was made, modulo 2^64.
+    // How many rows were broken since the setter of the sheet was made, modulo 2^64.
     pub fn tally(&self) -> u64
         ensures { result ≡ (state self.now).tally }
     {

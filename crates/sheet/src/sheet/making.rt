@@ -1,4 +1,4 @@
-// Making a sheet, and what it tells of itself.
+// Making a sheet.
 ghost use Rattle.std.specs.Prelude.{◌≡◌, [], ◌∷◌, IfOk};
 ghost use Rattle.layout.specs.Styles.{style};
 ghost use Rattle.sheet.specs.Clean.{empty_row};
