@@ -19,11 +19,10 @@ struct Held {
 }
 
 impl Held {
-    // by hand, since an equality of all fields would compare the advance too
     fn is_of(&self, before: Option<u8>, c: u8) -> bool
         ensures { Decides result ((self.now.before ≡ before) × (self.now.code ≡ c)) }
     {
-        self.before == before && self.code == c
+        (self.before, self.code) == (before, c)
     }
 }
 
@@ -88,9 +87,7 @@ impl<M: Measurer> AdvanceCache<M> {
             pairs: HeldPairs::new(),
         }
     }
-}
 
-impl<M: Measurer> AdvanceCache<M> {
     // Whether the advance of `c` after `before` would be answered without asking below.
     pub fn held(&self, before: Option<u8>, c: u8) -> bool
         ensures { Decides result (Holds self.now.pairs.slots before c) }
