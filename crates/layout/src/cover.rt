@@ -26,10 +26,7 @@ fn lacking<M: Measurer>(measurer: &mut M, c: u8) -> Option<MissingGlyph>
     ensures same { M.meaning measurer.new ≡ M.meaning measurer.old }
     ensures value { result ≡ lacking (M.meaning measurer.old) c }
 {
-    if c == NEWLINE {
-        return None;
-    }
-    if measurer.covers(c) {
+    if c == NEWLINE || measurer.covers(c) {
         return None;
     }
     measurer.advance(None, c).err()
