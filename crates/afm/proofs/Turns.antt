@@ -1,5 +1,7 @@
 -- One turn of the loop over lines, by what its calls ensure.
-use Rattle.std.proofs.Common.{◌≡◌, ℕ, ◌+◌, ◌<◌, false, List, length, Ok, Err, sym, ap, ◌∙◌, arith}
+use Rattle.std.proofs.Common.{◌≡◌, ℕ, ◌+◌, ◌<◌, false, List, length, Ok, Err, Result, MatchResult, sym, ap, ◌∙◌, arith}
+use Rattle.std.proofs.lemmas.Result.{err_from_is_err_and}
+use Rattle.std.specs.Result.{IsErrAnd}
 use Rattle.lists.specs.Holding.{holding}
 use Rattle.lists.specs.declared.bounded.BoundedList.{BoundedList}
 use Rattle.metrics.specs.declared.entry.Glyph.{Glyph}
@@ -9,9 +11,21 @@ use Rattle.afm.specs.Lines.{rest_of, first_line, past_line, lines}
 use Rattle.afm.specs.Parts.{Part}
 use Rattle.afm.specs.Reading.{outcome, is_ended, read_lines}
 use Rattle.afm.specs.Steps.{Place, Standing, after, answer, line_step, place, standing, rest, progress}
+use Rattle.afm.specs.declared.fault.AfmFault.{AfmFault}
 use Rattle.afm.specs.declared.fault.AfmFault.TheVariants.{At}
 use Rattle.afm.specs.declared.fault.LineFault.{LineFault}
 use Rattle.afm.specs.declared.reader.Reader.{Reader}
+
+-- what is answered where a line's answer is a refusal or none
+abbrev pub told_at : ℕ → Result (Unit {0}) LineFault → Result (Unit {0}) AfmFault
+told_at n (Ok u) = Ok u
+told_at n (Err f) = Err (At n f)
+
+-- what `map_err` makes of it
+pub told_by : {Q : LineFault → AfmFault → Type 0} (n : ℕ) (a : Result (Unit {0}) LineFault) (b : Result (Unit {0}) AfmFault) → ((f : LineFault) (e : AfmFault) → Q f e → e ≡ At n f)
+    → MatchResult a (λ x. b ≡ Ok x) (λ f. IsErrAnd b (Q f)) → b ≡ told_at n a
+told_by n (Ok u) b makes h = h
+told_by n (Err f) b makes h = let p = err_from_is_err_and b h in p.1 ∙ ap Err (makes f p.0 p.2)
 
 -- r is the reader before a line, s after the line was cut off, t after it was taken
 pub record Turn (file : List ℕ) (r s t : Reader) (g h : BoundedList Glyph) (k m : BoundedList KernPair) (l : Part) : Type 0 where
@@ -44,10 +58,13 @@ module _ {file : List ℕ} {r s t : Reader} {g h : BoundedList Glyph} {k m : Bou
       ∙ ap (λ q. read_lines file (progress t h m) (r.line + 1 + 1) (lines q)) x.left
       ∙ sym (read_on file (progress r g k) (r.line + 1) x.on (rest r) l x.some x.cut (progress t h m) (ok ∙ ap answer step) went)
 
-  pub turn_refused : (f : LineFault) → Err f ≡ answer (line_step s.file.now (progress s g k) l) → read_lines file (progress r g k) (r.line + 1) (lines (rest r)) ≡ outcome (progress t h m) (Err (At t.line f))
-  turn_refused f err =
-      read_refused file (progress r g k) (r.line + 1) x.on (rest r) l x.some x.cut (progress t h m) f (err ∙ ap answer step) went
-      ∙ ap (λ n. outcome (progress t h m) (Err (At n f))) (sym (ap (λ (q : Place). q.line) x.there ∙ x.count))
+  pub turn_refused : (a : Result (Unit {0}) LineFault) (e : AfmFault) → a ≡ answer (line_step s.file.now (progress s g k) l) → told_at s.line a ≡ Err e
+      → read_lines file (progress r g k) (r.line + 1) (lines (rest r)) ≡ outcome (progress t h m) (Err e)
+  turn_refused (Ok u) e is told = let z : ◌≡◌ {A = ℕ} 0 1 = cc in absurd (omega arith)
+  turn_refused (Err f) e is told =
+      read_refused file (progress r g k) (r.line + 1) x.on (rest r) l x.some x.cut (progress t h m) f (is ∙ ap answer step) went
+      ∙ ap (λ n. outcome (progress t h m) (Err (At n f))) (sym x.count)
+      ∙ ap (outcome (progress t h m)) told
 
   pub turn_file : t.file.now ≡ file
   turn_file = ap (λ (q : Place). q.file) x.there ∙ x.kept ∙ x.same

@@ -28,13 +28,13 @@ pub fn read_font(
             });
         }
         let line = reader.next_line();
-        // no `map_err`: its closure would read the reader's line, which is no plainer
-        if let Err(fault) = reader.take_line(line, glyphs, kerns) {
-            return Err(AfmFault::At {
-                line: reader.lines_read(),
+        let number = reader.lines_read();
+        reader
+            .take_line(line, glyphs, kerns)
+            .map_err(|fault| AfmFault::At {
+                line: number,
                 fault,
-            });
-        }
+            })?;
     }
     Ok(())
 }

@@ -1,13 +1,14 @@
-use Rattle.std.proofs.Common.{◌+◌, length, Err, sym, refl, ap, ◌∙◌, arith}
+use Rattle.std.proofs.Common.{◌≡◌, ◌+◌, length, Ok, Err, sym, refl, ap, ◌∙◌, arith, rules}
+use Rattle.std.proofs.lemmas.Result.{err_from_is_err_and}
 use Rattle.std.proofs.lemmas.Bool.{eqb-true, eqb-false}
 use Rattle.lists.specs.Holding.{holding}
 use Rattle.afm.proofs.Runs.{read_ended, read_over}
-use Rattle.afm.proofs.Turns.{Turn, turn_again, turn_refused, turn_file, turn_less}
+use Rattle.afm.proofs.Turns.{Turn, told_at, told_by, turn_again, turn_refused, turn_file, turn_less}
 use Rattle.afm.specs.Lines.{rest_of, lines}
 use Rattle.afm.specs.Parts.{line}
 use Rattle.afm.specs.Reading.{Outcome, read_lines, read_font}
 use Rattle.afm.specs.Steps.{Place, Standing, progress, rest}
-use Rattle.afm.specs.declared.fault.AfmFault.TheVariants.{At, Over}
+use Rattle.afm.specs.declared.fault.AfmFault.TheVariants.{Over}
 use Rattle.afm.proofs.font.read_font.Goals as goal
 
 pub lines-init : goal.lines-init
@@ -31,7 +32,7 @@ returns-then-is_over c =
       answer = ap (λ n. Err (Over (n + 1))) c.lines_read.ensures.value ∙ sym (ap (λ (o : Outcome). o.answer) told);
     }
 
-refused_turn : (c : goal.After-lines_read-in-Err) → Turn c.args.file.now c.lines.reader c.next_line-line.new.self c.take_line.new.self c.lines.glyphs c.take_line.new.glyphs c.lines.kerns c.take_line.new.kerns (line c.next_line-line.result)
+refused_turn : (c : goal.After-from_residual) → Turn c.args.file.now c.lines.reader c.next_line-line.new.self c.take_line.new.self c.lines.glyphs c.take_line.new.glyphs c.lines.kerns c.take_line.new.kerns (line c.next_line-line.result)
 refused_turn c =
     let long = eqb-false (length (rest c.lines.reader).text) 0 (sym c.if-is_over.ensures) in
     record {
@@ -43,22 +44,25 @@ refused_turn c =
       count = c.next_line-line.ensures.count;
       kept = c.next_line-line.ensures.file;
       stays = c.next_line-line.ensures.standing;
-      there = c.in-Err.ensures.place;
-      moved = c.in-Err.ensures.after;
+      there = c.take_line.ensures.place;
+      moved = c.take_line.ensures.after;
     }
 
-pub returns-in-Err : goal.returns-in-Err
-returns-in-Err c =
-    let told = sym c.lines.invariant.0 ∙ turn_refused (refused_turn c) c.in-Err.fault c.in-Err.ensures.answer in
+pub returns-in_err-map_err : goal.returns-in_err-map_err
+returns-in_err-map_err c =
+    let same = told_by c.lines_read-number.result c.take_line.result c.map_err.result (λ f e made. search rules) c.map_err.ensures.cases in
+    let e = c.in_err-map_err.field-0.0 in
+    let p = err_from_is_err_and c.from_residual.result c.from_residual.ensures.1 in
+    let told = sym c.lines.invariant.0 ∙ turn_refused (refused_turn c) c.take_line.result e c.take_line.ensures.answer (ap (λ n. told_at n c.take_line.result) (sym c.lines_read-number.ensures.value) ∙ sym same ∙ c.in_err-map_err.was) in
     record {
-      glyph_lender = c.in-Err.ensures.glyph_lender ∙ c.lines.invariant.2;
-      kern_lender = c.in-Err.ensures.kern_lender ∙ c.lines.invariant.3;
+      glyph_lender = c.take_line.ensures.glyph_lender ∙ c.lines.invariant.2;
+      kern_lender = c.take_line.ensures.kern_lender ∙ c.lines.invariant.3;
       glyphs = sym (ap (λ (o : Outcome). o.glyphs) told);
       kerns = sym (ap (λ (o : Outcome). o.kerns) told);
-      answer = ap (λ n. Err (At n c.in-Err.fault)) c.lines_read-in-Err.ensures.value ∙ sym (ap (λ (o : Outcome). o.answer) told);
+      answer = p.1 ∙ ap Err p.2 ∙ sym (ap (λ (o : Outcome). o.answer) told);
     }
 
-taken_turn : (c : goal.In_default) → Turn c.args.file.now c.lines.reader c.next_line-line.new.self c.take_line.new.self c.lines.glyphs c.take_line.new.glyphs c.lines.kerns c.take_line.new.kerns (line c.next_line-line.result)
+taken_turn : (c : goal.In_ok-map_err) → Turn c.args.file.now c.lines.reader c.next_line-line.new.self c.take_line.new.self c.lines.glyphs c.take_line.new.glyphs c.lines.kerns c.take_line.new.kerns (line c.next_line-line.result)
 taken_turn c =
     let long = eqb-false (length (rest c.lines.reader).text) 0 (sym c.if-is_over.ensures) in
     record {
@@ -70,8 +74,8 @@ taken_turn c =
       count = c.next_line-line.ensures.count;
       kept = c.next_line-line.ensures.file;
       stays = c.next_line-line.ensures.standing;
-      there = c.in_default.ensures.place;
-      moved = c.in_default.ensures.after;
+      there = c.take_line.ensures.place;
+      moved = c.take_line.ensures.after;
     }
 
 pub lines-smaller : goal.lines-smaller
@@ -79,10 +83,10 @@ lines-smaller c = turn_less (taken_turn c)
 
 pub lines-preserved : goal.lines-preserved
 lines-preserved c = (
-  turn_again (taken_turn c) c.in_default.ensures.answer ∙ c.lines.invariant.0,
+  turn_again (taken_turn c) (let told : c.take_line.result ≡ Ok tt = search rules in sym told ∙ c.take_line.ensures.answer) ∙ c.lines.invariant.0,
   turn_file (taken_turn c),
-  c.in_default.ensures.glyph_lender ∙ c.lines.invariant.2,
-  c.in_default.ensures.kern_lender ∙ c.lines.invariant.3,
+  c.take_line.ensures.glyph_lender ∙ c.lines.invariant.2,
+  c.take_line.ensures.kern_lender ∙ c.lines.invariant.3,
 )
 
 pub returns : goal.returns
