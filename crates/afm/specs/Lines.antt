@@ -1,9 +1,8 @@
 -- Lines end at a newline or, if not empty, at the end of the file; a return before the newline is no part of them.
 use Rattle.std.specs.Prelude.{ℕ, zero, suc, ◌+◌, ◌-◌, min, cond, ◌&&◌, List, [], ◌∷◌, length, drop, ◌==◌, nat_lt, slice_index}
 use Rattle.std.specs.List.{prefix_len}
-use Rattle.afm.specs.Kinds.{holds}
+use Rattle.afm.specs.Kinds.{is_inline}
 use Rattle.afm.specs.Parts.{Part, front, past}
-use Rattle.afm.specs.declared.kind.Kind.TheVariants.{Inline}
 
 -- what is left of a file from a place on
 abbrev pub rest_of : List ℕ → ℕ → Part
@@ -11,7 +10,7 @@ rest_of file at = record { text = drop at file; at = at }
 
 -- how far a newline, or the end, is away
 abbrev pub line_length : Part → ℕ
-line_length p = prefix_len (holds Inline) p.text
+line_length p = prefix_len is_inline p.text
 
 -- the length of a line's text, where the line ends after n bytes
 abbrev pub text_length : List ℕ → ℕ → ℕ

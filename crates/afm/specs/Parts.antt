@@ -1,9 +1,7 @@
 -- Parts of a file: a text, and the place where it begins.
 use Rattle.std.specs.Prelude.{ℕ, zero, suc, ◌+◌, Bool, true, ◌&&◌, List, [], ◌∷◌, length, take, drop, ◌==◌, slice_index}
 use Rattle.std.specs.List.{prefix_len}
-use Rattle.afm.specs.Kinds.{holds}
-use Rattle.afm.specs.declared.kind.Kind.{Kind}
-use Rattle.afm.specs.declared.kind.Kind.TheVariants.{Blank, Dark}
+use Rattle.afm.specs.Kinds.{is_blank, is_dark}
 use Rattle.afm.specs.declared.part.Word.{Word}
 use Rattle.afm.specs.declared.part.Line.{Line}
 
@@ -24,18 +22,18 @@ abbrev pub past : ℕ → Part → Part
 past n p = record { text = drop n p.text; at = p.at + n }
 
 -- as many bytes as stand in front and are of one kind
-abbrev pub front_of : Kind → Part → Part
-front_of k p = front (prefix_len (holds k) p.text) p
+abbrev pub front_of : (ℕ → Bool) → Part → Part
+front_of kind p = front (prefix_len kind p.text) p
 
-abbrev pub past_of : Kind → Part → Part
-past_of k p = past (prefix_len (holds k) p.text) p
+abbrev pub past_of : (ℕ → Bool) → Part → Part
+past_of kind p = past (prefix_len kind p.text) p
 
 -- the first word of a line, which is empty if there is none, and what follows it
 unfoldable pub first_word : Part → Part
-first_word p = front_of Dark (past_of Blank p)
+first_word p = front_of is_dark (past_of is_blank p)
 
 unfoldable pub past_word : Part → Part
-past_word p = past_of Dark (past_of Blank p)
+past_word p = past_of is_dark (past_of is_blank p)
 
 -- what follows the first n words
 abbrev pub past_words : ℕ → Part → Part

@@ -5,7 +5,6 @@ mod entry_line;
 pub mod fault;
 mod field;
 pub mod font;
-mod kind;
 mod part;
 mod reader;
 mod search;

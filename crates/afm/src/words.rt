@@ -1,9 +1,10 @@
 // A line's words, one after another.
 ghost use Rattle.std.specs.Prelude.{◌≡◌, ◌≤◌, length};
+ghost use Rattle.std.specs.List.{prefix_len};
 ghost use Rattle.std.specs.Str.{bytes_eq};
+ghost use Rattle.afm.specs.Kinds.{is_blank, is_dark};
 ghost use Rattle.afm.specs.Parts.{line, word, first_word, past_word, past, front, is};
 
-use crate::kind::{Kind, front_of};
 use crate::part::{Line, Word};
 
 impl<'a> Line<'a> {
@@ -13,8 +14,8 @@ impl<'a> Line<'a> {
         ensures value { word result ≡ first_word (line self.old) }
         ensures after { line self.new ≡ past_word (line self.old) }
     {
-        let start = self.past(front_of(Kind::Blank, self.rest));
-        let len = front_of(Kind::Dark, start.rest);
+        let start = self.past(blank_front(self.rest));
+        let len = dark_front(start.rest);
         *self = start.past(len);
         let word = start.front(len);
         Word {
@@ -42,6 +43,26 @@ impl<'a> Line<'a> {
             at: self.at,
         }
     }
+}
+
+// How many bytes in front part words.
+fn blank_front(text: &[u8]) -> usize
+    ensures value { result ≡ prefix_len is_blank text.now }
+    ensures bound { result ≤ length text.now }
+{
+    text.iter()
+        .take_while(|b| matches!(**b, b' ' | b'\t'))
+        .count()
+}
+
+// How many bytes in front are of one word.
+fn dark_front(text: &[u8]) -> usize
+    ensures value { result ≡ prefix_len is_dark text.now }
+    ensures bound { result ≤ length text.now }
+{
+    text.iter()
+        .take_while(|b| !matches!(**b, b' ' | b'\t'))
+        .count()
 }
 
 // Whether a word is this keyword, byte for byte.

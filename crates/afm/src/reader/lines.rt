@@ -1,11 +1,12 @@
 // The file's lines, one after another.
 ghost use Rattle.std.specs.Prelude.{◌≡◌, ◌+◌, ◌<◌, ◌≤◌, length, ◌==◌};
+ghost use Rattle.std.specs.List.{prefix_len};
+ghost use Rattle.afm.specs.Kinds.{is_inline};
 ghost use Rattle.afm.specs.Lines.{text_length, first_line, past_line};
 ghost use Rattle.afm.specs.Parts.{line as part};
 ghost use Rattle.afm.specs.Steps.{rest, standing};
 
 use super::Reader;
-use crate::kind::{Kind, front_of};
 use crate::part::Line;
 
 impl<'a> Reader<'a> {
@@ -34,11 +35,19 @@ impl<'a> Reader<'a> {
         ensures standing { standing self.new ≡ standing self.old }
     {
         let start = self.rest();
-        let len = front_of(Kind::Inline, start.rest);
+        let len = line_length(start.rest);
         self.at += (len + 1).min(start.rest.len());
         self.line += 1;
         start.front(text_length(start.rest, len))
     }
+}
+
+// How many bytes stand before the line's newline, or the file's end.
+fn line_length(rest: &[u8]) -> usize
+    ensures value { result ≡ prefix_len is_inline rest.now }
+    ensures bound { result ≤ length rest.now }
+{
+    rest.iter().take_while(|b| **b != b'\n').count()
 }
 
 // How much of a line that ends after `len` bytes is text: a return before its newline is not.
