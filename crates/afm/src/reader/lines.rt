@@ -56,9 +56,8 @@ fn text_length(rest: &[u8], len: usize) -> usize
     ensures value { result ≡ text_length rest.now len }
     ensures bound { result ≤ len }
 {
-    if len < rest.len() && len > 0 && rest[len - 1] == b'\r' {
-        len - 1
-    } else {
-        len
+    match &rest[..len] {
+        [text @ .., b'\r'] if len < rest.len() => text.len(),
+        _ => len,
     }
 }
