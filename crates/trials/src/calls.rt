@@ -24,23 +24,24 @@ enum Answer {
     Shown(Row),
 }
 
-// A sheet that spends the slips of changes which stay owed, and gives one for each settle: settle
-// spends any sheet's slip.
-fn spend(bank: &mut Sheet<Cells, Spaces>, slip: Slip) {
+// Spends the slip of a change that stays owed: `settle` takes any sheet's slip.
+fn spend(other: &mut Sheet<Cells, Spaces>, slip: Slip) {
     let mut record = Repaint::default();
-    let _ = bank.settle(slip, &mut record);
+    let _ = other.settle(slip, &mut record);
 }
 
+// Makes the call that a line asks for. `other` is a sheet that spends the slips which `sheet` leaves
+// owed, and gives the one for each settle.
 fn call<M: Measurer>(
     line: &[u8],
     sheet: &mut Sheet<M, Breaks>,
-    bank: &mut Sheet<Cells, Spaces>,
+    other: &mut Sheet<Cells, Spaces>,
     text: &mut [u8; MAX_CHARACTERS],
     buffer: &mut [u8],
 ) -> Result<Answer, CommandFault> {
     if line == b"P".as_slice() {
         let mut record = Repaint::default();
-        let slip = bank.refresh();
+        let slip = other.refresh();
         sheet.settle(slip, &mut record)?;
         return Ok(Answer::Settled(record));
     }
@@ -50,7 +51,7 @@ fn call<M: Measurer>(
         Command::Refresh => sheet.refresh(),
         Command::Show { row } => return Ok(Answer::Shown(sheet.row(row, buffer)?)),
     };
-    spend(bank, slip);
+    spend(other, slip);
     Ok(Answer::Accepted)
 }
 
@@ -64,7 +65,7 @@ fn print_shown(rt: &HostRuntime, number: u64, row: Row, buffer: &[u8]) -> io::Re
         row.reach
     )?;
     let len = row.end.saturating_sub(row.start).min(buffer.len());
-    rt.stdout().write_all(&buffer[0..len])?;
+    rt.stdout().write_all(&buffer[..len])?;
     rt.println("")
 }
 
@@ -100,13 +101,13 @@ pub fn print_calls<M: Measurer + Drop>(
 ) -> Result<(), Stop> {
     let heap = rt.alloc();
     let cells = Setter::new(Cells::new(500)?, Spaces, setter.measure);
-    let mut bank = Sheet::new(heap, cells)?;
+    let mut other = Sheet::new(heap, cells)?;
     let mut sheet = Sheet::new(heap, setter)?;
     let mut text = [0; MAX_CHARACTERS];
     let mut buffer = vec![in heap; 0; room]?;
     for (number, line) in (1..u64::MAX).zip(Lines::new(calls)) {
         let rows = sheet.row_count();
-        match call(line, &mut sheet, &mut bank, &mut text, &mut buffer) {
+        match call(line, &mut sheet, &mut other, &mut text, &mut buffer) {
             Ok(Answer::Accepted) => {
                 println!(rt; "{number} accepted {}", sheet.row_count())?;
             }

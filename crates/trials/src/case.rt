@@ -4,8 +4,8 @@ ghost use Rattle.std.specs.Iterator.{at_most};
 
 use numerals::reading::{integer, magnitude};
 use page::policy::Breaks;
-use script::split::split_once;
 use std::mem;
+use std::str::Split;
 
 // What the sheet of a case is made from, beside its measurer, and how much room its list has.
 #[derive(Clone, Copy)]
@@ -65,11 +65,11 @@ impl<'a> Iterator for Cases<'a> {
     ghost remaining = { λ s. at_most (length s.rest.now) };
 
     fn next(&mut self) -> Option<Result<Case<'a>, Unreadable>> {
-        let bytes = mem::replace(&mut self.rest, &[]);
-        if bytes.is_empty() {
+        let mut rest = mem::replace(&mut self.rest, &[]);
+        if rest.is_empty() {
             return None;
         }
-        let Some((case, rest)) = case_and_rest(bytes) else {
+        let Some(case) = take_case(&mut rest) else {
             return Some(Err(Unreadable));
         };
         self.rest = rest;
@@ -77,110 +77,75 @@ impl<'a> Iterator for Cases<'a> {
     }
 }
 
-// The first case, and the bytes behind it.
-fn case_and_rest(bytes: &[u8]) -> Option<(Case<'_>, &[u8])>
-    ensures { IfSome result (λ p. length p.1.now < length bytes.now) }
+// The words of a header, with single spaces between them.
+type Words<'h> = Split<'h, char>;
+
+// Takes the first case off the front. The header is cut by its length, since `split_once` does not
+// promise that less is left.
+fn take_case<'a>(bytes: &mut &'a [u8]) -> Option<Case<'a>>
+    ensures { IfSome result (λ _. length bytes.new.now < length bytes.old.now) }
 {
     let end = bytes.iter().position(|b| *b == b'\n')?;
-    let mut words = Words {
-        rest: Some(&bytes[..end]),
-    };
-    let read = case_by(&mut words, &bytes[end + 1..])?;
+    let header = str::from_utf8(bytes.split_off(..end)?).ok()?;
+    bytes.split_off_first()?;
+    let mut words = header.split(' ');
+    let case = case_by(&mut words, bytes)?;
     match words.next() {
-        None => Some(read),
+        None => Some(case),
         Some(_) => None,
     }
 }
 
 // The case that the words say, over the bytes in front.
-fn case_by<'a>(words: &mut Words, bytes: &'a [u8]) -> Option<(Case<'a>, &'a [u8])>
-    ensures { IfSome result (λ p. length p.1.now ≤ length bytes.now) }
+fn case_by<'a>(words: &mut Words, bytes: &mut &'a [u8]) -> Option<Case<'a>>
+    ensures { IfSome result (λ _. length bytes.new.now ≤ length bytes.old.now) }
 {
     match words.next()? {
-        b"cells" => {
-            let (on, rest) = on_cells(words, bytes)?;
-            Some((Case::Script(on), rest))
-        }
-        b"calls" => {
-            let (on, rest) = on_cells(words, bytes)?;
-            Some((Case::Calls(on), rest))
-        }
-        b"font" => {
-            let (on, rest) = on_font(words, bytes)?;
-            Some((Case::Font(on), rest))
-        }
+        "cells" => Some(Case::Script(on_cells(words, bytes)?)),
+        "calls" => Some(Case::Calls(on_cells(words, bytes)?)),
+        "font" => Some(Case::Font(on_font(words, bytes)?)),
         _ => None,
     }
 }
 
-fn on_cells<'a>(words: &mut Words, bytes: &'a [u8]) -> Option<(CellsCase<'a>, &'a [u8])>
-    ensures { IfSome result (λ p. length p.1.now ≤ length bytes.now) }
+fn on_cells<'a>(words: &mut Words, bytes: &mut &'a [u8]) -> Option<CellsCase<'a>>
+    ensures { IfSome result (λ _. length bytes.new.now ≤ length bytes.old.now) }
 {
-    let size = words.number()?;
-    let setting = words.setting()?;
-    let (lines, rest) = bytes.split_at_checked(words.number()? as usize)?;
-    Some((
-        CellsCase {
-            size,
-            setting,
-            lines,
-        },
-        rest,
-    ))
+    Some(CellsCase {
+        size: number(words)?,
+        setting: setting_by(words)?,
+        lines: take_part(words, bytes)?,
+    })
 }
 
-fn on_font<'a>(words: &mut Words, bytes: &'a [u8]) -> Option<(FontCase<'a>, &'a [u8])>
-    ensures { IfSome result (λ p. length p.1.now ≤ length bytes.now) }
+fn on_font<'a>(words: &mut Words, bytes: &mut &'a [u8]) -> Option<FontCase<'a>>
+    ensures { IfSome result (λ _. length bytes.new.now ≤ length bytes.old.now) }
 {
-    let glyphs = words.number()? as usize;
-    let kerns = words.number()? as usize;
-    let tracking = integer(words.next()?)?;
-    let setting = words.setting()?;
-    let (font, rest) = bytes.split_at_checked(words.number()? as usize)?;
-    let (script, rest) = rest.split_at_checked(words.number()? as usize)?;
-    Some((
-        FontCase {
-            glyphs,
-            kerns,
-            tracking,
-            setting,
-            font,
-            script,
-        },
-        rest,
-    ))
+    Some(FontCase {
+        glyphs: number(words)? as usize,
+        kerns: number(words)? as usize,
+        tracking: integer(words.next()?.as_bytes())?,
+        setting: setting_by(words)?,
+        font: take_part(words, bytes)?,
+        script: take_part(words, bytes)?,
+    })
 }
 
-// The words of a header, with single spaces between them.
-#[derive(Drop)]
-struct Words<'a> {
-    rest: Option<&'a [u8]>,
+fn setting_by(words: &mut Words) -> Option<Setting> {
+    Some(Setting {
+        measure: number(words)?,
+        breaks: words.next()?.parse().ok()?,
+        room: number(words)? as usize,
+    })
 }
 
-impl<'a> Words<'a> {
-    fn next(&mut self) -> Option<&'a [u8]> {
-        let rest = self.rest?;
-        match split_once(rest, b' ') {
-            Some((word, rest)) => {
-                self.rest = Some(rest);
-                Some(word)
-            }
-            None => {
-                self.rest = None;
-                Some(rest)
-            }
-        }
-    }
+// As many bytes off the front as the next word says.
+fn take_part<'a>(words: &mut Words, bytes: &mut &'a [u8]) -> Option<&'a [u8]>
+    ensures { IfSome result (λ _. length bytes.new.now ≤ length bytes.old.now) }
+{
+    bytes.split_off(..number(words)? as usize)
+}
 
-    fn number(&mut self) -> Option<u32> {
-        magnitude(self.next()?)
-    }
-
-    fn setting(&mut self) -> Option<Setting> {
-        Some(Setting {
-            measure: self.number()?,
-            breaks: str::from_utf8(self.next()?).ok()?.parse().ok()?,
-            room: self.number()? as usize,
-        })
-    }
+fn number(words: &mut Words) -> Option<u32> {
+    magnitude(words.next()?.as_bytes())
 }
