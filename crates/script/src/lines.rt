@@ -1,7 +1,8 @@
 // The lines of a script.
-ghost use Rattle.std.specs.Prelude.{◌≡◌};
-ghost use Rattle.std.specs.Iterator.{YieldsFirstRef, item_count};
+ghost use Rattle.std.specs.Prelude.{◌≡◌, ◌≤◌, length, IfSome, ⊤};
+ghost use Rattle.std.specs.Iterator.{YieldsFirstRef, item_count, MakesProgress};
 ghost use Rattle.script.specs.Left.{lines_left};
+ghost use Rattle.script.specs.Lines.{lines};
 ghost use Rattle.script.specs.Theorems.{LineLaws};
 
 use crate::split::split_once;
@@ -30,7 +31,12 @@ impl<'s> Iterator for Lines<'s> {
     ghost remaining = { item_count lines_left };
 
     // The next line, without its newline.
-    fn next(&mut self) -> Option<&'s [u8]> {
+    fn next(&mut self) -> Option<&'s [u8]>
+        ensures steps { YieldsFirstRef lines_left self.old result self.new }
+        ensures goes { MakesProgress (λ _. ⊤) (item_count lines_left) self.old result self.new }
+        ensures bound { IfSome result (λ line. length line.now ≤ length self.old.rest.now) }
+        ensures few { length (lines self.old.rest.now) ≤ length self.old.rest.now }
+    {
         match split_once(self.rest, NEWLINE) {
             Some((line, rest)) => {
                 self.rest = rest;
