@@ -69,6 +69,7 @@ impl<M: Measurer, P: Policy> Sheet<M, P> {
         let old = self.setter.measure;
         self.setter.measure = measure;
         let laid = self.setter.lay(&self.text, &mut self.spare);
+        // by hand, since the old measure comes back; a covered text is refused for its rows alone
         if laid.is_err() {
             self.setter.measure = old;
             return Err(RemeasureFault::TooManyRows);
