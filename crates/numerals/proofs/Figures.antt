@@ -1,41 +1,11 @@
--- The digits of a number: those that a loop puts before one another, and what they say of it.
-use Rattle.std.proofs.Common.{◌≡◌, ℕ, zero, suc, ◌+◌, ◌-◌, ◌*◌, ◌/◌, ◌%◌, ◌^◌, ◌<◌, ◌≤◌, Bool, true, false, cond, ◌&&◌, leb, List, [], ◌∷◌, ◌++◌, length, get_or, drop, set, Some, None, decimal, sym, refl, ap, ◌∙◌, pow-suc, arith}
+-- What the digits of a number say of it.
+use Rattle.std.proofs.Common.{◌≡◌, ℕ, zero, suc, ◌+◌, ◌-◌, ◌*◌, ◌/◌, ◌%◌, ◌^◌, ◌<◌, ◌≤◌, Bool, true, false, cond, ◌&&◌, leb, List, [], ◌∷◌, ◌++◌, length, get_or, Some, None, decimal, sym, refl, ap, ◌∙◌, arith}
 use native.Mathlib.Nat.{pow-succ', div-div-eq-div-mul}
-use Rattle.std.proofs.lemmas.Fmt.{decimal_digit, decimal_step, decimal_by_steps, first_decimal, decimal_nonempty}
-use Rattle.std.proofs.lemmas.List.{append_assoc, drop-set, length_push, reverse-append}
+use Rattle.std.proofs.lemmas.Fmt.{decimal_digit, decimal_by_steps, first_decimal, decimal_nonempty}
+use Rattle.std.proofs.lemmas.List.{length_push, reverse-append}
 use Rattle.std.proofs.lemmas.Bool.{cond-true, and_from, le-leb}
 use Rattle.numerals.specs.Reading.{digits}
 use Rattle.numerals.specs.Writing.{ByPlaces, GivesBack, WithoutLeadingZero, Digits}
-
--- a digit that is put before those from i on
-pub one_before : (ds : List ℕ) (i d : ℕ) → 0 < i → i ≤ length ds → drop (i - 1) (set ds (i - 1) d) ≡ d ∷ drop i ds
-one_before ds i d h k = let l : i - 1 < length ds = omega arith in drop-set ds (i - 1) d l ∙ ap (λ (j : ℕ). d ∷ drop j ds) {x = i - 1 + 1} {y = i} (omega arith)
-
--- one digit of what is left goes over to those that stand
-pub digit_moves : (r : ℕ) (ds : List ℕ) (n i : ℕ) → 10 ≤ r → r < 2 ^ 64 → 0 < i → i ≤ length ds → decimal r ++ drop i ds ≡ decimal n → decimal (r / 10) ++ drop (i - 1) (set ds (i - 1) (48 + r % 10)) ≡ decimal n
-digit_moves r ds n i more small h k e =
-    ap (λ (x : List ℕ). decimal (r / 10) ++ x) (one_before ds i (48 + r % 10) h k)
-    ∙ sym (append_assoc (decimal (r / 10)) ((48 + r % 10) ∷ []) (drop i ds))
-    ∙ ap (λ (x : List ℕ). x ++ drop i ds) (sym (decimal_step r more small))
-    ∙ e
-
--- the last digit of what is left
-pub digit_ends : (r : ℕ) (ds : List ℕ) (n i : ℕ) → r < 10 → 0 < i → i ≤ length ds → decimal r ++ drop i ds ≡ decimal n → drop (i - 1) (set ds (i - 1) (48 + r % 10)) ≡ decimal n
-digit_ends r ds n i one h k e =
-    one_before ds i (48 + r % 10) h k
-    ∙ ap (λ (d : ℕ). (48 + d) ∷ drop i ds) {x = r % 10} {y = r} (omega arith)
-    ∙ ap (λ (x : List ℕ). x ++ drop i ds) (sym (decimal_digit r one))
-    ∙ e
-
-pub pow_less : (r i : ℕ) → 0 < i → r < 10 ^ i → r / 10 < 10 ^ (i - 1)
-pow_less r zero h k = absurd (omega arith)
-pow_less r (suc i) h k = let e : suc i - 1 ≡ i = omega arith in rw e (let p = rw pow-suc at k in omega arith)
-
-pub pow_some : (r i : ℕ) → (r ≡ 0 → ⊥) → r < 10 ^ i → 0 < i
-pow_some r zero some k = absurd (some (omega arith))
-pow_some r (suc i) some k = omega arith
-
--- what the digits of a number say of it
 
 by_places : (n : ℕ) → n < 2 ^ 64 → ByPlaces n (decimal n)
 by_places = decimal_by_steps ByPlaces one more
