@@ -35,8 +35,7 @@ impl Measurer for Cells {
         matches!(c, 32..=126)
     }
 
-    fn advance(&mut self, before: Option<u8>, c: u8) -> Result<u16, MissingGlyph> {
-        let _ = before;
+    fn advance(&mut self, _before: Option<u8>, c: u8) -> Result<u16, MissingGlyph> {
         match c {
             32..=126 => Ok(self.size),
             _ => Err(MissingGlyph { code: c, depth: 0 }),

@@ -52,13 +52,11 @@ pub struct Anywhere;
 impl Policy for Anywhere {
     ghost rules = { λ _. anywhere };
 
-    fn may_break(&self, before: u8, after: u8) -> bool {
-        let _ = (before, after);
+    fn may_break(&self, _before: u8, _after: u8) -> bool {
         true
     }
 
-    fn hangs(&self, c: u8) -> bool {
-        let _ = c;
+    fn hangs(&self, _c: u8) -> bool {
         false
     }
 }

@@ -9,7 +9,7 @@ pub const MAX_CHARACTERS: usize = 4_096;
 
 pub const NEWLINE: u8 = b'\n';
 
-// Characters by their place: a lent slice, a gap buffer, a text as it would be after an edit.
+// Characters by their place: a text of its own, a gap buffer, a text as it would be after an edit.
 pub trait Characters {
     ghost chars: { Self → List ℕ };
 
