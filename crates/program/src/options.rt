@@ -46,12 +46,10 @@ pub fn from_args(rt: &HostRuntime) -> Result<Option<Options>, Stop> {
         options.tracking = tracking(word.as_str())?;
     }
     if let Some(word) = args.next() {
-        options.breaks = word.as_str().parse()?;
+        options.breaks = breaks(word.as_str())?;
     }
-    match args.next() {
-        None => Ok(Some(options)),
-        Some(_) => Err(Stop::Usage(Misuse::TooMany)),
-    }
+    none_left(args.next())?;
+    Ok(Some(options))
 }
 
 // FONT.afm MEASURE TRACKING spaces|anywhere, or nothing at all; none if help is asked for.
@@ -63,15 +61,22 @@ pub fn all_or_none(rt: &HostRuntime) -> Result<Option<Options>, Stop> {
     if font.as_str() == "--help" {
         return Ok(None);
     }
+    let mut word = || args.next().ok_or(Misuse::TooFew);
     let options = Options {
         font: Some(font),
-        measure: measure(args.next().ok_or(Misuse::TooFew)?.as_str())?,
-        tracking: tracking(args.next().ok_or(Misuse::TooFew)?.as_str())?,
-        breaks: args.next().ok_or(Misuse::TooFew)?.as_str().parse()?,
+        measure: measure(word()?.as_str())?,
+        tracking: tracking(word()?.as_str())?,
+        breaks: breaks(word()?.as_str())?,
     };
-    match args.next() {
-        None => Ok(Some(options)),
-        Some(_) => Err(Stop::Usage(Misuse::TooMany)),
+    none_left(args.next())?;
+    Ok(Some(options))
+}
+
+// Nothing may stand behind the last option.
+fn none_left(next: Option<String>) -> Result<(), Misuse> {
+    match next {
+        None => Ok(()),
+        Some(_) => Err(Misuse::TooMany),
     }
 }
 
@@ -81,6 +86,10 @@ fn measure(word: &str) -> Result<u32, Misuse> {
 
 fn tracking(word: &str) -> Result<i32, Misuse> {
     number::<i64, i32>(word, i32::MAX).ok_or(Misuse::Tracking)
+}
+
+fn breaks(word: &str) -> Result<Breaks, Misuse> {
+    word.parse().map_err(|_| Misuse::Policy)
 }
 
 // A number, read as a wide one: what the narrow type cannot hold becomes `most`, which no setting takes.

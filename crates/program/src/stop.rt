@@ -6,7 +6,6 @@ use afm::fault::{AfmFault, LineFault};
 use layout::setting::SetFault;
 use metrics::fault::OutOfRange;
 use page::measure::NoSuchMeasure;
-use page::policy::NoSuchPolicy;
 use page::text::TooLong;
 use preview::words::Refusal;
 use runner::fault::ListFull;
@@ -44,6 +43,8 @@ pub enum Stop {
     // a font file cannot be read
     #[error("{path}: {error}")]
     NoFile { path: String, error: io::Error },
+    #[error("out of memory")]
+    Memory,
     // the label is refused
     #[error(transparent)]
     Refused(#[from] Refusal),
@@ -81,16 +82,10 @@ pub fn ended(rt: &HostRuntime, program: &str, outcome: Result<(), Stop>) -> Exit
     ExitCode::FAILURE
 }
 
-// The derive converts only what a variant holds; what is two steps away is converted here.
-impl From<NoSuchPolicy> for Stop {
-    fn from(_e: NoSuchPolicy) -> Stop {
-        Stop::Usage(Misuse::Policy)
-    }
-}
-
+// By hand, since the derive converts only what a variant holds as it is.
 impl From<AllocError> for Stop {
-    fn from(e: AllocError) -> Stop {
-        Stop::from(SetFault::from(e))
+    fn from(_e: AllocError) -> Stop {
+        Stop::Memory
     }
 }
 
@@ -121,7 +116,7 @@ impl From<OutOfRange> for Stop {
 impl From<ReplayFault> for Stop {
     fn from(e: ReplayFault) -> Stop {
         match e {
-            ReplayFault::Memory => Stop::from(SetFault::Memory),
+            ReplayFault::Memory => Stop::Memory,
             ReplayFault::Full(full) => Stop::Full(full),
         }
     }
