@@ -57,6 +57,7 @@ pub fn run<M: Measurer, P: Policy>(
         };
         return enter(list, 0, Err(fault)).map_err(|_| ListFull { line: 0 });
     }
+    // Room for what a line puts in and for a row's characters, once for the whole run: no heap is asked.
     let mut text = [0; MAX_CHARACTERS];
     let mut row = [0; MAX_CHARACTERS];
     'lines: for (before, line) in Lines::new(script).enumerate() {
