@@ -7,17 +7,17 @@ use page::text::Characters;
 
 // `text` with `ins` in place of the `del` characters at `at`.
 #[derive(Clone, Copy)]
-pub struct EditedText<'t, 'i> {
-    text: &'t GapBuffer,
+pub struct EditedText<'a> {
+    text: &'a GapBuffer,
     at: usize,
     del: usize,
-    ins: &'i [u8],
+    ins: &'a [u8],
     ghost within: { at + del ≤ length text.now },
     ghost few: { length text.now - del + length ins.now ≤ most_characters },
 }
 
-impl<'t, 'i> EditedText<'t, 'i> {
-    pub fn new(text: &'t GapBuffer, at: usize, del: usize, ins: &'i [u8]) -> EditedText<'t, 'i>
+impl<'a> EditedText<'a> {
+    pub fn new(text: &'a GapBuffer, at: usize, del: usize, ins: &'a [u8]) -> EditedText<'a>
         requires within { at + del ≤ length text.now }
         requires few { length text.now - del + length ins.now ≤ most_characters }
         ensures { edited result.text.now result.at result.del result.ins.now ≡ edited text.now at del ins.now }
@@ -26,7 +26,7 @@ impl<'t, 'i> EditedText<'t, 'i> {
     }
 }
 
-impl Characters for EditedText<'_, '_> {
+impl Characters for EditedText<'_> {
     ghost chars = { λ e. edited e.text.now e.at e.del e.ins.now };
 
     fn len(&self) -> usize {
