@@ -1,5 +1,4 @@
 -- The state of a sheet.
-use Rattle.std.specs.Prelude.{vec_items}
 use Rattle.metrics.specs.declared.measurer.Measurer.{Ghosts as Measurer}
 use Rattle.page.specs.declared.policy.Policy.{Ghosts as Policy}
 use Rattle.sheet.specs.Histories.{State}

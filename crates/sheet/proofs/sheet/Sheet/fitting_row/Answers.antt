@@ -1,4 +1,4 @@
-use Rattle.std.proofs.Common.{rules, tests, ◌≡◌, ◌<◌, List, length, get_or, Some, IfSome, vec_items, sym, ap, ◌∙◌, subst}
+use Rattle.std.proofs.Common.{rules, tests, ◌≡◌, ◌<◌, List, length, get_or, Some, IfSome, sym, ap, ◌∙◌, subst}
 use Rattle.std.proofs.lemmas.Option.{slice_get-get_or}
 use Rattle.std.specs.List.{slice_get}
 use Rattle.page.specs.declared.row.Row.{Row}

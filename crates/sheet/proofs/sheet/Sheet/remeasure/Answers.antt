@@ -1,5 +1,5 @@
 -- Each way out is a way of the clean sheet's remeasure.
-use Rattle.std.proofs.Common.{◌≡◌, ℕ, ◌+◌, ◌-◌, ◌%◌, ◌^◌, ◌<◌, true, length, Some, vec_items, sym, refl, ap, ◌∙◌, arith}
+use Rattle.std.proofs.Common.{◌≡◌, ℕ, ◌+◌, ◌-◌, ◌%◌, ◌^◌, ◌<◌, true, length, Some, sym, refl, ap, ◌∙◌, arith}
 use Rattle.layout.specs.Styles.{Style}
 use Rattle.reflow.specs.Edits.{rows_of}
 use Rattle.reflow.specs.declared.repaint.Repaint.{Repaint}
