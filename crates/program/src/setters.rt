@@ -1,6 +1,6 @@
 // What the programs set text with.
-ghost use Rattle.std.specs.Prelude.{IfOk};
-ghost use Rattle.program.specs.Choices.{AsAsked};
+ghost use Rattle.std.specs.Prelude.{MatchResult};
+ghost use Rattle.program.specs.Choices.{AsAsked, RightlyRefused};
 
 use crate::font_file;
 use crate::options::Options;
@@ -21,7 +21,7 @@ pub enum Chosen {
 
 // What the options ask for: cells of 500, or a font over them, tracked.
 pub fn choose(rt: &HostRuntime, options: Options) -> Result<Chosen, Stop>
-    ensures { IfOk result (AsAsked options) }
+    ensures { MatchResult result (AsAsked options) (RightlyRefused options) }
 {
     let Options {
         measure,

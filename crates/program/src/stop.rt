@@ -1,6 +1,8 @@
 // How a program stops short, in words.
 ghost use Rattle.std.specs.Prelude.{◌≡◌, MatchResult};
 ghost use Rattle.std.specs.Process.{exit_status};
+ghost use Rattle.preview.specs.declared.words.Refusal.TheVariants.{Long, NoMeasure, Unset, Setting};
+ghost use Rattle.program.specs.declared.stop.Stop.TheVariants.{Memory, Refused};
 
 use afm::fault::{AfmFault, LineFault};
 use layout::setting::SetFault;
@@ -84,30 +86,40 @@ pub fn ended(rt: &HostRuntime, program: &str, outcome: Result<(), Stop>) -> Exit
 
 // By hand, since the derive converts only what a variant holds as it is.
 impl From<AllocError> for Stop {
+    ghost from_gives = { λ _ r. r ≡ Memory };
+
     fn from(_e: AllocError) -> Stop {
         Stop::Memory
     }
 }
 
 impl From<SetFault> for Stop {
+    ghost from_gives = { λ e r. r ≡ Refused (Unset e) };
+
     fn from(e: SetFault) -> Stop {
         Stop::Refused(e.into())
     }
 }
 
 impl From<TooLong> for Stop {
+    ghost from_gives = { λ e r. r ≡ Refused (Long e) };
+
     fn from(e: TooLong) -> Stop {
         Stop::Refused(e.into())
     }
 }
 
 impl From<NoSuchMeasure> for Stop {
+    ghost from_gives = { λ e r. r ≡ Refused (NoMeasure e) };
+
     fn from(e: NoSuchMeasure) -> Stop {
         Stop::Refused(e.into())
     }
 }
 
 impl From<OutOfRange> for Stop {
+    ghost from_gives = { λ e r. r ≡ Refused (Setting e) };
+
     fn from(e: OutOfRange) -> Stop {
         Stop::Refused(e.into())
     }
