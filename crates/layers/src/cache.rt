@@ -99,10 +99,13 @@ impl<M: Measurer> AdvanceCache<M> {
 impl<M: Measurer> Measurer for AdvanceCache<M> {
     ghost meaning = { λ cache. cached (M.meaning cache.below) };
 
+    ghost lenders = { λ cache. M.lenders cache.below };
+
     ghost bounded = { Prim.search rules };
 
     fn covers(&mut self, c: u8) -> bool
         ensures same { cached (M.meaning self.new.below) ≡ cached (M.meaning self.old.below) }
+        ensures lenders { M.lenders self.new.below ≡ M.lenders self.old.below }
         ensures value { result ≡ (M.meaning self.old.below).covers c }
         ensures keeps { self.new.pairs.slots ≡ self.old.pairs.slots }
     {
@@ -111,6 +114,7 @@ impl<M: Measurer> Measurer for AdvanceCache<M> {
 
     fn advance(&mut self, before: Option<u8>, c: u8) -> Result<u16, MissingGlyph>
         ensures same { cached (M.meaning self.new.below) ≡ cached (M.meaning self.old.below) }
+        ensures lenders { M.lenders self.new.below ≡ M.lenders self.old.below }
         ensures value { result ≡ answer (cached (M.meaning self.old.below)) before c }
         ensures keeps { Keeps self.old.pairs.slots self.new.pairs.slots self.old.below self.new.below before c result }
     {

@@ -1,5 +1,5 @@
 // Fallback: what the first measurer does not cover is left to a second.
-ghost use Rattle.std.specs.Prelude.{◌≡◌};
+ghost use Rattle.std.specs.Prelude.{◌≡◌, ◌++◌};
 ghost use Rattle.layers.specs.Fallback.{fallen_back};
 ghost use Rattle.std.proofs.Common.{rules};
 
@@ -23,6 +23,8 @@ impl<A: Measurer, B: Measurer> Fallback<A, B> {
 
 impl<A: Measurer, B: Measurer> Measurer for Fallback<A, B> {
     ghost meaning = { λ f. fallen_back (A.Measurer.meaning f.first) (B.Measurer.meaning f.second) };
+
+    ghost lenders = { λ f. A.Measurer.lenders f.first ++ B.Measurer.lenders f.second };
 
     ghost bounded = { Prim.search rules };
 

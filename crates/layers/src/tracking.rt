@@ -54,6 +54,8 @@ impl<M: Measurer> Tracking<M> {
 impl<M: Measurer> Measurer for Tracking<M> {
     ghost meaning = { λ t. tracked t.units (M.meaning t.below) };
 
+    ghost lenders = { λ t. M.lenders t.below };
+
     ghost bounded = { Prim.search rules };
 
     fn covers(&mut self, c: u8) -> bool {

@@ -19,6 +19,7 @@ impl<M: Measurer, P: Policy> Setter<M, P> {
     // one to the tally of rows broken.
     pub fn break_row<T: Characters>(&mut self, text: &T, start: usize) -> Result<Row, Uncovered>
         ensures kept { style M.meaning P.rules self.new ≡ style M.meaning P.rules self.old }
+        ensures lenders { M.lenders self.new.measurer ≡ M.lenders self.old.measurer }
         ensures policy { self.new.policy ≡ self.old.policy }
         ensures value { result ≡ row_from (M.meaning self.old.measurer) (P.rules self.old.policy) self.old.measure (T.chars text.now) (min start (length (T.chars text.now))) }
         ensures first_fit { RightlyBroken (M.meaning self.old.measurer) (P.rules self.old.policy) self.old.measure (T.chars text.now) (min start (length (T.chars text.now))) result }

@@ -24,6 +24,7 @@ impl Uncovered {
 // The glyph that `c` lacks; a newline needs none.
 fn lacking<M: Measurer>(measurer: &mut M, c: u8) -> Option<MissingGlyph>
     ensures same { M.meaning measurer.new ≡ M.meaning measurer.old }
+    ensures lenders { M.lenders measurer.new ≡ M.lenders measurer.old }
     ensures value { result ≡ lacking (M.meaning measurer.old) c }
 {
     if c == NEWLINE || measurer.covers(c) {
@@ -35,6 +36,7 @@ fn lacking<M: Measurer>(measurer: &mut M, c: u8) -> Option<MissingGlyph>
 // Refuses the first character, newlines aside, that has no glyph.
 pub fn check_cover<M: Measurer>(measurer: &mut M, chars: &[u8]) -> Result<(), Uncovered>
     ensures same { M.meaning measurer.new ≡ M.meaning measurer.old }
+    ensures lenders { M.lenders measurer.new ≡ M.lenders measurer.old }
     ensures value { result ≡ cover_answer (first_uncovered (M.meaning measurer.old) 0 chars.now) }
 {
     for (offset, c) in chars.iter().enumerate() {

@@ -17,6 +17,7 @@ pub fn write_edges<T: Characters, M: Measurer>(
     edges: &mut [u32],
 )
     ensures same { M.meaning measurer.new ≡ M.meaning measurer.old }
+    ensures lenders { M.lenders measurer.new ≡ M.lenders measurer.old }
     ensures value { AllCovered (M.meaning measurer.old) (part (T.chars text.now) start end) → length (part (T.chars text.now) start end) ≤ length edges.old → edges.new ≡ edges_of (M.meaning measurer.old) (part (T.chars text.now) start end) ++ drop (length (part (T.chars text.now) start end)) edges.old }
 {
     let count = end.min(text.len()).saturating_sub(start).min(edges.len());

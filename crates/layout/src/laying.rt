@@ -44,6 +44,7 @@ impl<M: Measurer, P: Policy> Setter<M, P> {
     // to there.
     pub fn lay<T: Characters>(&mut self, text: &T, rows: &mut RowList) -> Result<(), LayFault>
         ensures kept { style M.meaning P.rules self.new ≡ style M.meaning P.rules self.old }
+        ensures lenders { M.lenders self.new.measurer ≡ M.lenders self.old.measurer }
         ensures policy { self.new.policy ≡ self.old.policy }
         ensures value { result ≡ (laid (M.meaning self.old.measurer) (P.rules self.old.policy) self.old.measure (T.chars text.now)).answer }
         ensures items { rows.new ≡ (laid (M.meaning self.old.measurer) (P.rules self.old.policy) self.old.measure (T.chars text.now)).rows }

@@ -50,6 +50,7 @@ impl<M: Measurer, P: Policy> Setter<M, P> {
     // The rows of a text. A character without a glyph is refused before any row is laid.
     pub fn set_text(&mut self, heap: Global, text: &Text) -> Result<RowList, SetFault>
         ensures kept { style M.meaning P.rules self.new ≡ style M.meaning P.rules self.old }
+        ensures lenders { M.lenders self.new.measurer ≡ M.lenders self.old.measurer }
         ensures policy { self.new.policy ≡ self.old.policy }
         ensures counted { self.new.tally ≡ self.old.tally }
         ensures value { MatchResult result (λ l. setting_of (M.meaning self.old.measurer) (P.rules self.old.policy) self.old.measure text.now ≡ Ok l) (RefusalOf (setting_of (M.meaning self.old.measurer) (P.rules self.old.policy) self.old.measure text.now)) }

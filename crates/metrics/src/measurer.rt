@@ -1,5 +1,5 @@
 // The interface of every measurer, with its meaning.
-ghost use Rattle.std.specs.Prelude.{◌≡◌};
+ghost use Rattle.std.specs.Prelude.{◌≡◌, ℕ, List, [], ◌∷◌};
 ghost use Rattle.metrics.specs.Meaning.{Meaning, Bounded, answer};
 ghost use Rattle.metrics.specs.Limits.{cut};
 ghost use Rattle.std.proofs.Common.{rules};
@@ -21,14 +21,19 @@ pub fn cut(sum: i32) -> u16
 pub trait Measurer {
     ghost meaning: { Self → Meaning };
 
+    // The names of the borrows that it holds, so that whoever lent it something knows what became of that.
+    ghost lenders: { Self → List ℕ } = { λ _. [] };
+
     // Whether there is a glyph for `c`.
     fn covers(&mut self, c: u8) -> bool
         ensures same { meaning self.new ≡ meaning self.old }
+        ensures lenders { lenders self.new ≡ lenders self.old }
         ensures value { result ≡ (meaning self.old).covers c };
 
     // The advance of `c` after the character before it in its row, if there is one.
     fn advance(&mut self, before: Option<u8>, c: u8) -> Result<u16, MissingGlyph>
         ensures same { meaning self.new ≡ meaning self.old }
+        ensures lenders { lenders self.new ≡ lenders self.old }
         ensures value { result ≡ answer (meaning self.old) before c };
 
     ghost bounded: { (m : Self) → Bounded (meaning m) };
@@ -37,6 +42,8 @@ pub trait Measurer {
 // A lent measurer is one too.
 impl<M: Measurer> Measurer for &mut M {
     ghost meaning = { λ m. M.meaning m.now };
+
+    ghost lenders = { λ m. m.ghost_name ∷ M.lenders m.now };
 
     ghost bounded = { Prim.search rules };
 

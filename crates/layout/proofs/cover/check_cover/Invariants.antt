@@ -8,3 +8,4 @@ invariant-loop-offset g l =
     let m = g.M.Measurer.meaning l.initial.measurer in
     (g.M.Measurer.meaning l.measurer ≡ m)
     × (first_uncovered m l.offset (drop l.offset l.chars) ≡ first_uncovered m 0 l.chars)
+    × (g.M.Measurer.lenders l.measurer ≡ g.M.Measurer.lenders l.initial.measurer)

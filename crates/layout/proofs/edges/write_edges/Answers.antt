@@ -26,10 +26,11 @@ turn-preserved g c =
       c.advance.ensures.same ∙ inv.0,
       omega arith,
       rest_more c.turn.edges c.args.edges.now i _ inv.2,
+      c.advance.ensures.lenders ∙ inv.3,
       (λ v.
           let told : c.advance.result ≡ answer m c.turn.before ch = c.advance.ensures.value ∙ ap (λ (x : Meaning). answer x c.turn.before ch) inv.0 in
           let adv : c.from-edge.result ≡ m.adv c.turn.before ch = c.from-edge.ensures ∙ c.unwrap_or.ensures ∙ ap (λ (r : Result ℕ MissingGlyph). result_unwrap_or r 0) told ∙ advance_given m c.turn.before ch (v i ch there) in
-          edge_more m cs c.turn.edges i ch c.turn.edge c.from-edge.result c.turn.before (omega arith) there adv (inv.3 v)),
+          edge_more m cs c.turn.edges i ch c.turn.edge c.from-edge.result c.turn.before (omega arith) there adv (inv.4 v)),
     )
 
 pub returns : goal.returns
@@ -42,7 +43,8 @@ returns g c =
     let long : length cs ≡ min (c.args.end - c.args.start) (length t - c.args.start) = length-take (c.args.end - c.args.start) (drop c.args.start t) ∙ ap (min (c.args.end - c.args.start)) (length-drop c.args.start t) in
     record {
       same = inv.0;
+      lenders = inv.3;
       value = λ v room.
           let all : i ≡ length cs = omega (arith, long, room, c.len.ensures.value) in
-          edges_all m cs c.turn.edges c.args.edges.now i c.turn.edge c.turn.before (omega arith) inv.2 (inv.3 v) ∙ ap (λ (n : ℕ). edges m cs ++ drop n c.args.edges.now) all;
+          edges_all m cs c.turn.edges c.args.edges.now i c.turn.edge c.turn.before (omega arith) inv.2 (inv.4 v) ∙ ap (λ (n : ℕ). edges m cs ++ drop n c.args.edges.now) all;
     }

@@ -12,4 +12,5 @@ invariant-turn g l =
     (g.M.Measurer.meaning l.measurer ≡ m)
     × (l.edge ≤ 65535 * l.i)
     × (drop l.i l.edges ≡ drop l.i l.initial.edges)
+    × (g.M.Measurer.lenders l.measurer ≡ g.M.Measurer.lenders l.initial.measurer)
     × (AllCovered m cs → take l.i l.edges ++ edges_from m l.edge l.before (drop l.i cs) ≡ edges m cs)

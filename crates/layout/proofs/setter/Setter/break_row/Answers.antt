@@ -13,7 +13,7 @@ use Rattle.layout.proofs.Scanning.{at_newline, at_missing, at_over, at_on, at_en
 use Rattle.layout.proofs.setter.Setter.break_row.Goals as goal
 
 pub scan-init : goal.scan-init
-scan-init g c = rw (c.new-scan.ensures, c.min.ensures, c.len.ensures.value) (omega arith, omega arith, refl, refl, refl, refl)
+scan-init g c = rw (c.new-scan.ensures, c.min.ensures, c.len.ensures.value) (omega arith, omega arith, refl, refl, refl, refl, refl)
 
 pub returns-then-c-eq-NEWLINE : goal.returns-then-c-eq-NEWLINE
 returns-then-c-eq-NEWLINE g c =
@@ -25,6 +25,7 @@ returns-then-c-eq-NEWLINE g c =
     ap Ok c.whole.ensures ∙ sym (at_newline _ _ _ s t _ _ (sym c.in-Some.ensures) c.if-c-eq-NEWLINE.true) ∙ inv.4 in
     record {
       kept = inv.2;
+      lenders = inv.6;
       policy = inv.5;
       value = found;
       first_fit = rightly_broken k.meaning k.rules k.measure t (min c.args.start (length t)) _ (omega arith) found;
@@ -48,6 +49,7 @@ returns-in_err-advance g c =
     sym (at_missing _ _ _ s t _ _ (sym c.in-Some.ensures) c.if-c-eq-NEWLINE.false _ (ap (λ m. answer m s.before c.in-Some.c) (sym asked) ∙ sym c.advance.ensures.value ∙ told)) ∙ inv.4 in
     record {
       kept = still c.advance.ensures.same inv.2;
+      lenders = c.advance.ensures.lenders ∙ inv.6;
       policy = inv.5;
       value = p.1 ∙ ap Err (p.2 ∙ is) ∙ found;
       first_fit = rw (p.1, p.2 ∙ is) (rightly_broken k.meaning k.rules k.measure t (min c.args.start (length t)) _ (omega arith) found);
@@ -88,6 +90,7 @@ returns-then-next-units g c =
     ap Ok (c.over.ensures ∙ ap₂ (over_row s) is-n follows) ∙ sym (at_over k.meaning k.rules k.measure s t _ _ (sym c.in-Some.ensures) c.if-c-eq-NEWLINE.false _ said wide) ∙ inv.4 in
     record {
       kept = still c.advance.ensures.same inv.2;
+      lenders = c.advance.ensures.lenders ∙ inv.6;
       policy = inv.5;
       value = found;
       first_fit = rightly_broken k.meaning k.rules k.measure t (min c.args.start (length t)) _ (omega arith) found;
@@ -125,6 +128,7 @@ scan-preserved g c =
       inv.3,
       rw is-n (sym (at_on k.meaning k.rules k.measure s t _ _ (sym c.in-Some.ensures) c.if-c-eq-NEWLINE.false _ said fits) ∙ inv.4),
       inv.5,
+      c.advance.ensures.lenders ∙ inv.6,
     )
 
 pub returns : goal.returns
@@ -137,6 +141,7 @@ returns g c =
     ap Ok c.whole-2.ensures ∙ sym (at_end _ _ _ s t _ (sym c.in_default.ensures)) ∙ inv.4 in
     record {
       kept = inv.2;
+      lenders = inv.6;
       policy = inv.5;
       value = found;
       first_fit = rightly_broken k.meaning k.rules k.measure t (min c.args.start (length t)) _ (omega arith) found;

@@ -15,6 +15,7 @@ invariant-scan g l =
     × (l.self.tally ≡ l.initial.self.tally)
     × (scan k.meaning k.rules k.measure l.scan (drop l.scan.place t) ≡ row_from k.meaning k.rules k.measure t s)
     × (l.self.policy ≡ l.initial.self.policy)
+    × (g.M.Measurer.lenders l.self.measurer ≡ g.M.Measurer.lenders l.initial.self.measurer)
 
 abbrev pub decreases-scan : goal.decreases-scan
 decreases-scan g l = length (g.T.Characters.chars l.text) - l.scan.place

@@ -29,6 +29,7 @@ returns-in_err-row g c =
     (broke_at c.rows.start (length t) inv.1 (row_from k.meaning k.rules k.measure t) ∙ ap (λ (x : Style). row_from x.meaning x.rules x.measure t (min c.rows.start (length t))) (sym inv.0) ∙ sym (told.value)) in
     record {
       kept = told.kept ∙ inv.0;
+      lenders = told.lenders ∙ inv.6;
       policy = told.policy ∙ inv.5;
       value = p.1 ∙ ap Err p.2 ∙ sym ended.answer;
       items = sym ended.rows;
@@ -53,6 +54,7 @@ returns-in_default g c =
     stopped_at_end k.meaning k.rules k.measure t most_rows done c.rows.start (laid k.meaning k.rules k.measure t) inv.2 r short found (sym (c.in_default.ensures within)) in
     record {
       kept = told.kept ∙ inv.0;
+      lenders = told.lenders ∙ inv.6;
       policy = told.policy ∙ inv.5;
       value = sym ended.answer;
       items = c.in_ok-push.ensures.value ∙ sym ended.rows;
@@ -89,6 +91,7 @@ rows-preserved g c =
       (λ z. absurd (omega arith)),
       (λ _. counted_more c.args.self.now.tally c.rows.self.tally _ (length done) inv.3 inv.4 told.counted ∙ ap (λ (n : ℕ). (c.args.self.now.tally + n) % 2 ^ 64) (sym long)),
       told.policy ∙ inv.5,
+      told.lenders ∙ inv.6,
     )
 
 pub returns : goal.returns
@@ -102,6 +105,7 @@ returns g c =
     stopped_full k.meaning k.rules k.measure t most_rows done c.rows.start (laid k.meaning k.rules k.measure t) inv.2 full in
     record {
       kept = inv.0;
+      lenders = inv.6;
       policy = inv.5;
       value = sym ended.answer;
       items = sym ended.rows;

@@ -16,6 +16,7 @@ invariant-rows g l =
     × (length done ≡ 0 → l.self.tally ≡ l.initial.self.tally)
     × (0 < length done → l.self.tally ≡ (l.initial.self.tally + length done) % 2 ^ 64)
     × (l.self.policy ≡ l.initial.self.policy)
+    × (g.M.Measurer.lenders l.self.measurer ≡ g.M.Measurer.lenders l.initial.self.measurer)
 
 abbrev pub decreases-rows : goal.decreases-rows
 decreases-rows g l = most_rows - length l.rows

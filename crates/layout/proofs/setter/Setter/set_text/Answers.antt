@@ -24,6 +24,7 @@ returns-in_err-check_cover g c =
     refused_for_glyph m P w t u (told_some (first_uncovered m 0 t) u (told.value ∙ ap (λ (x : List ℕ). cover_answer (first_uncovered m 0 x)) c.as_slice.ensures)) in
     record {
       kept = still told.same refl;
+      lenders = told.lenders;
       policy = refl;
       counted = refl;
       value = rw (p.1, p.2) is;
@@ -46,6 +47,7 @@ returns-in_err-laid g c =
     (ap (λ (x : Meaning). (laid x P w t).answer) (sym checked.same) ∙ sym (told.value)) in
     record {
       kept = told.kept ∙ still checked.same refl;
+      lenders = told.lenders ∙ checked.lenders;
       policy = told.policy;
       counted = refl;
       value = rw (p.1, p.2) is;
@@ -67,6 +69,7 @@ returns g c =
     ∙ ap Ok (ap (λ (x : Meaning). (laid x P w t).rows) (sym checked.same) ∙ sym (told.items)) in
     record {
       kept = told.kept ∙ still checked.same refl;
+      lenders = told.lenders ∙ checked.lenders;
       policy = told.policy;
       counted = refl;
       value = is;
