@@ -41,6 +41,7 @@ fn break_until_met<T: Characters, M: Measurer, P: Policy>(
     rows: &mut RowList,
 ) -> Result<usize, LayFault>
     ensures kept { style M.meaning P.rules setter.new ≡ style M.meaning P.rules setter.old }
+    ensures lenders { M.lenders setter.new.measurer ≡ M.lenders setter.old.measurer }
     ensures policy { setter.new.policy ≡ setter.old.policy }
     ensures within { IfOk result (λ j. j ≤ length old.now) }
     ensures counted { OnOk result ((length rows.old ≤ length rows.new) × (setter.old.tally < 2 ^ 64 → setter.new.tally ≡ (setter.old.tally + (length rows.new - length rows.old)) % 2 ^ 64)) }
@@ -74,6 +75,7 @@ pub fn relay<T: Characters, M: Measurer, P: Policy>(
     rows: &mut RowList,
 ) -> Result<Repaint, LayFault>
     ensures kept { style M.meaning P.rules setter.new ≡ style M.meaning P.rules setter.old }
+    ensures lenders { M.lenders setter.new.measurer ≡ M.lenders setter.old.measurer }
     ensures policy { setter.new.policy ≡ setter.old.policy }
     ensures laws { ReflowLaws (M.meaning setter.old.measurer) (P.rules setter.old.policy) setter.old.measure }
     ensures relaid { Relaid (M.meaning setter.old.measurer) (P.rules setter.old.policy) setter.old.measure (T.chars text.now) edit old.now result rows.new setter.old.tally setter.new.tally }

@@ -19,6 +19,7 @@ returns-in-Ok g c =
     let met = c.in-Ok.ensures in
     record {
       kept = inv.0;
+      lenders = inv.6;
       policy = inv.5;
       within = omega (arith, met.among);
       counted = (inv.1, inv.2);
@@ -35,6 +36,7 @@ returns-in_err-row g c =
     let p = err_from_is_err_and c.from_residual.result c.from_residual.ensures.1 in
     record {
       kept = told.kept ∙ inv.0;
+      lenders = told.lenders ∙ inv.6;
       policy = told.policy ∙ inv.5;
       within = rw p.1 tt;
       counted = rw p.1 tt;
@@ -59,6 +61,7 @@ returns-in_default g c =
     let long : length more ≡ length done + 1 = ap length pushed ∙ length_push done r in
     record {
       kept = told.kept ∙ inv.0;
+      lenders = told.lenders ∙ inv.6;
       policy = told.policy ∙ inv.5;
       within = omega arith;
       counted = (omega arith, (λ f. counted_on c.args.setter.now.tally c.rows.setter.tally _ (length done - length first) (length more - length first) (inv.2 f) told.counted (omega arith)));
@@ -114,6 +117,7 @@ rows-preserved g c =
           let next : following r ≡ Some s' = sym (c.in-Some.ensures (omega (arith, at.ends))) in
           before_later old c.in-Err.next (start - e.ins + e.del) (s' - e.ins + e.del) (omega (arith, (at.on s' next).0)) unmet.passed),
       told.policy ∙ inv.5,
+      told.lenders ∙ inv.6,
     )
 
 pub returns : goal.returns
@@ -125,6 +129,7 @@ returns g c =
     let full : most_rows ≤ length done = omega (arith, c.rows-test.false, c.len.ensures.value) in
     record {
       kept = inv.0;
+      lenders = inv.6;
       policy = inv.5;
       within = tt;
       counted = tt;

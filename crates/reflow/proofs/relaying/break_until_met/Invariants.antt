@@ -21,6 +21,7 @@ invariant-rows g l =
     × ((new : List Row) → Changed k.meaning k.rules k.measure t l.edit l.old new → Underway k.meaning k.rules k.measure t l.edit l.old new first l.initial.start
     → Before l.old l.from (l.start - l.edit.ins + l.edit.del))
     × (l.setter.policy ≡ l.initial.setter.policy)
+    × (g.M.Measurer.lenders l.setter.measurer ≡ g.M.Measurer.lenders l.initial.setter.measurer)
 
 abbrev pub decreases-rows : goal.decreases-rows
 decreases-rows g l = most_rows - length l.rows

@@ -32,6 +32,7 @@ returns-in_err-carry g c =
     let p = err_from_is_err_and c.from_residual.result c.from_residual.ensures.1 in
     record {
       kept = refl;
+      lenders = refl;
       policy = refl;
       laws = reflow_laws k.meaning k.rules k.measure;
       relaid = λ before ins q ed o.
@@ -51,6 +52,7 @@ returns-in_err-resumed g c =
     let p = err_from_is_err_and c.from_residual-in_err-resumed.result c.from_residual-in_err-resumed.ensures.1 in
     record {
       kept = told.kept;
+      lenders = told.lenders;
       policy = told.policy;
       laws = reflow_laws k.meaning k.rules k.measure;
       relaid = λ before ins q ed o.
@@ -76,6 +78,7 @@ returns-in_err-resume g c =
     let p = err_from_is_err_and c.from_residual-in_err-resume.result c.from_residual-in_err-resume.ensures.1 in
     record {
       kept = laid.kept;
+      lenders = laid.lenders;
       policy = laid.policy;
       laws = reflow_laws k.meaning k.rules k.measure;
       relaid = λ before ins q ed o.
@@ -103,6 +106,7 @@ returns g c =
     let fits : c.args.setter.now.tally < 2 ^ 64 = omega arith in
     record {
       kept = laid.kept;
+      lenders = laid.lenders;
       policy = laid.policy;
       laws = reflow_laws k.meaning k.rules k.measure;
       relaid = λ before ins q ed o.
