@@ -41,6 +41,7 @@ impl TrackingUnits {
 pub struct Tracking<M> {
     below: M,
     units: TrackingUnits,
+    ghost range: { TrackingRange units },
 }
 
 impl<M: Measurer> Tracking<M> {

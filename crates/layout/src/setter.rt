@@ -1,5 +1,6 @@
 // What text is set with.
 ghost use Rattle.std.specs.Prelude.{◌≡◌};
+ghost use Rattle.page.specs.Measures.{Measures};
 
 use page::measure::Measure;
 
@@ -10,6 +11,7 @@ pub struct Setter<M, P> {
     pub policy: P,
     pub measure: Measure,
     pub tally: u64,
+    ghost range: { Measures measure },
 }
 
 impl<M, P> Setter<M, P> {

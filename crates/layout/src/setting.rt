@@ -10,6 +10,7 @@ use crate::laying::LayFault;
 use crate::row_list::RowList;
 use crate::setter::Setter;
 use metrics::measurer::Measurer;
+use page::measure::Measure;
 use page::policy::Policy;
 use page::text::Text;
 use std::alloc::{AllocError, Global};
@@ -65,4 +66,20 @@ impl<M: Measurer, P: Policy> Setter<M, P> {
         laid?;
         Ok(rows)
     }
+}
+
+// The rows of a text, set with a measurer and a policy that are only lent.
+pub fn set_text<M: Measurer, P: Policy>(
+    heap: Global,
+    text: &Text,
+    measurer: &mut M,
+    policy: &P,
+    measure: Measure,
+) -> Result<RowList, SetFault>
+    ensures same { M.meaning measurer.new ≡ M.meaning measurer.old }
+    ensures lenders { M.lenders measurer.new ≡ M.lenders measurer.old }
+    ensures value { MatchResult result (λ l. setting_of (M.meaning measurer.old) (P.rules policy.now) measure text.now ≡ Ok l) (RefusalOf (setting_of (M.meaning measurer.old) (P.rules policy.now) measure text.now)) }
+    ensures first_fit { MatchResult result (λ l. Accepted (M.meaning measurer.old) (P.rules policy.now) measure text.now l) (RightlyNotSet (M.meaning measurer.old) (P.rules policy.now) measure text.now) }
+{
+    Setter::new(measurer, policy, measure).set_text(heap, text)
 }

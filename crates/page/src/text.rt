@@ -52,14 +52,16 @@ impl Text {
     }
 
     pub fn as_slice(&self) -> &[u8]
-        ensures { result.now ≡ self.now }
+        ensures value { result.now ≡ self.now }
+        ensures few { length self.now ≤ most_characters }
     {
         self.chars.as_slice()
     }
 
     // The part [start, end) of the text, as far as the text goes.
     pub fn part(&self, start: usize, end: usize) -> &[u8]
-        ensures { result.now ≡ part self.now start end }
+        ensures value { result.now ≡ part self.now start end }
+        ensures few { length self.now ≤ most_characters }
     {
         let end = end.min(self.chars.len());
         let start = start.min(end);

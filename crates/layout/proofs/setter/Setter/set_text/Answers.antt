@@ -21,7 +21,7 @@ returns-in_err-check_cover g c =
     let u = c.in_err-check_cover.field-0.0 in
     let p = err_from_is_err_and c.from_residual.result c.from_residual.ensures.1 in
     let is : setting_of m P w t ≡ Err (NoGlyph u) =
-    refused_for_glyph m P w t u (told_some (first_uncovered m 0 t) u (told.value ∙ ap (λ (x : List ℕ). cover_answer (first_uncovered m 0 x)) c.as_slice.ensures)) in
+    refused_for_glyph m P w t u (told_some (first_uncovered m 0 t) u (told.value ∙ ap (λ (x : List ℕ). cover_answer (first_uncovered m 0 x)) c.as_slice.ensures.value)) in
     record {
       kept = still told.same refl;
       lenders = told.lenders;
@@ -43,7 +43,7 @@ returns-in_err-laid g c =
     let p = err_from_is_err_and c.from_residual-in_err-laid.result c.from_residual-in_err-laid.ensures.1 in
     let is : setting_of m P w t ≡ Err e =
     refused_by_layout m P w t e
-    (told_none (first_uncovered m 0 t) tt (checked.value ∙ ap (λ (x : List ℕ). cover_answer (first_uncovered m 0 x)) c.as_slice.ensures))
+    (told_none (first_uncovered m 0 t) tt (checked.value ∙ ap (λ (x : List ℕ). cover_answer (first_uncovered m 0 x)) c.as_slice.ensures.value))
     (ap (λ (x : Meaning). (laid x P w t).answer) (sym checked.same) ∙ sym (told.value)) in
     record {
       kept = told.kept ∙ still checked.same refl;
@@ -64,7 +64,7 @@ returns g c =
     let t = c.args.text.now in
     let is : setting_of m P w t ≡ Ok c.lay-laid.new.rows =
     set_by_layout m P w t tt
-    (told_none (first_uncovered m 0 t) tt (checked.value ∙ ap (λ (x : List ℕ). cover_answer (first_uncovered m 0 x)) c.as_slice.ensures))
+    (told_none (first_uncovered m 0 t) tt (checked.value ∙ ap (λ (x : List ℕ). cover_answer (first_uncovered m 0 x)) c.as_slice.ensures.value))
     (ap (λ (x : Meaning). (laid x P w t).answer) (sym checked.same) ∙ sym (told.value))
     ∙ ap Ok (ap (λ (x : Meaning). (laid x P w t).rows) (sym checked.same) ∙ sym (told.items)) in
     record {

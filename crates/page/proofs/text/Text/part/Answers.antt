@@ -3,8 +3,8 @@ use Rattle.page.specs.Texts.{part}
 use Rattle.page.proofs.Places.{part_within}
 use Rattle.page.proofs.text.Text.part.Goals as goal
 
-pub returns : goal.returns
-returns c =
+pub returns-clause-value : goal.returns-clause-value
+returns-clause-value c =
     let t = vec_items c.self.inside.chars in
     let n = c.len.ensures ∙ c.self.inside.chars.ok.0 in
     let to : c.min-end.result ≡ min c.args.end (length t) = c.min-end.ensures ∙ ap (min c.args.end) n in
