@@ -46,7 +46,7 @@ impl<M: Measurer, P: Policy> Setter<M, P> {
         ensures kept { style M.meaning P.rules self.new ≡ style M.meaning P.rules self.old }
         ensures policy { self.new.policy ≡ self.old.policy }
         ensures value { result ≡ (laid (M.meaning self.old.measurer) (P.rules self.old.policy) self.old.measure (T.chars text.now)).answer }
-        ensures items { rows.new ≡ (laid (M.meaning self.old.measurer) (P.rules self.old.policy) self.old.measure (T.chars text.now)).rows }
+        ensures items { rows.new.rows.items ≡ (laid (M.meaning self.old.measurer) (P.rules self.old.policy) self.old.measure (T.chars text.now)).rows }
         ensures laws { LayoutLaws (M.meaning self.old.measurer) (P.rules self.old.policy) self.old.measure }
         ensures counted { self.new.tally ≡ (self.old.tally + broken_for (laid (M.meaning self.old.measurer) (P.rules self.old.policy) self.old.measure (T.chars text.now))) % 2 ^ 64 }
     {
