@@ -47,7 +47,7 @@ impl<M: Measurer, P: Policy> Setter<M, P> {
         ensures lenders { M.lenders self.new.measurer ≡ M.lenders self.old.measurer }
         ensures policy { self.new.policy ≡ self.old.policy }
         ensures value { result ≡ (laid (M.meaning self.old.measurer) (P.rules self.old.policy) self.old.measure (T.chars text.now)).answer }
-        ensures items { rows.new ≡ (laid (M.meaning self.old.measurer) (P.rules self.old.policy) self.old.measure (T.chars text.now)).rows }
+        ensures items { rows.new.rows.items ≡ (laid (M.meaning self.old.measurer) (P.rules self.old.policy) self.old.measure (T.chars text.now)).rows }
         ensures laws { LayoutLaws (M.meaning self.old.measurer) (P.rules self.old.policy) self.old.measure }
         ensures counted { self.new.tally ≡ (self.old.tally + broken_for (laid (M.meaning self.old.measurer) (P.rules self.old.policy) self.old.measure (T.chars text.now))) % 2 ^ 64 }
     {

@@ -54,8 +54,8 @@ impl<M: Measurer, P: Policy> Setter<M, P> {
         ensures lenders { M.lenders self.new.measurer ≡ M.lenders self.old.measurer }
         ensures policy { self.new.policy ≡ self.old.policy }
         ensures counted { self.new.tally ≡ self.old.tally }
-        ensures value { MatchResult result (λ l. setting_of (M.meaning self.old.measurer) (P.rules self.old.policy) self.old.measure text.now ≡ Ok l) (RefusalOf (setting_of (M.meaning self.old.measurer) (P.rules self.old.policy) self.old.measure text.now)) }
-        ensures first_fit { MatchResult result (λ l. Accepted (M.meaning self.old.measurer) (P.rules self.old.policy) self.old.measure text.now l) (RightlyNotSet (M.meaning self.old.measurer) (P.rules self.old.policy) self.old.measure text.now) }
+        ensures value { MatchResult result (λ l. setting_of (M.meaning self.old.measurer) (P.rules self.old.policy) self.old.measure text.now ≡ Ok l.rows.items) (RefusalOf (setting_of (M.meaning self.old.measurer) (P.rules self.old.policy) self.old.measure text.now)) }
+        ensures first_fit { MatchResult result (λ l. Accepted (M.meaning self.old.measurer) (P.rules self.old.policy) self.old.measure text.now l.rows.items) (RightlyNotSet (M.meaning self.old.measurer) (P.rules self.old.policy) self.old.measure text.now) }
     {
         check_cover(&mut self.measurer, text.as_slice())?;
         let mut rows = RowList::new(heap)?;

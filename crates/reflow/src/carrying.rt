@@ -32,7 +32,7 @@ fn resumed(row: Row, edit: Edit) -> Row
 // Puts what becomes of the rows behind those in the list.
 fn append<F: Fn(Row) -> Row>(rows: &mut RowList, old: &[Row], becomes: F) -> Result<(), Full>
     requires { F.IsAlwaysCallable becomes }
-    ensures { MatchResult result (λ _. (new : List OneRow) × (rows.new ≡ rows.old ++ new) × AllZip (F.post becomes) old.now new) (λ _. 1024 < length rows.old + length old.now) }
+    ensures { MatchResult result (λ _. (new : List OneRow) × (rows.new.rows.items ≡ rows.old.rows.items ++ new) × AllZip (F.post becomes) old.now new) (λ _. 1024 < length rows.old.rows.items + length old.now) }
 {
     for row in old {
         rows.push(becomes(*row))?;
@@ -42,14 +42,14 @@ fn append<F: Fn(Row) -> Row>(rows: &mut RowList, old: &[Row], becomes: F) -> Res
 
 // Puts the rows behind those in the list.
 pub(crate) fn carry(rows: &mut RowList, old: &[Row]) -> Result<(), Full>
-    ensures { MatchResult result (λ _. rows.new ≡ rows.old ++ old.now) (λ _. 1024 < length rows.old + length old.now) }
+    ensures { MatchResult result (λ _. rows.new.rows.items ≡ rows.old.rows.items ++ old.now) (λ _. 1024 < length rows.old.rows.items + length old.now) }
 {
     append(rows, old, |row| row)
 }
 
 // Puts the rows, moved by the edit, behind those in the list.
 pub(crate) fn resume(rows: &mut RowList, old: &[Row], edit: Edit) -> Result<(), Full>
-    ensures { MatchResult result (λ _. AllByRecursion (λ row. Small (resumed edit.del edit.ins row)) old.now → rows.new ≡ rows.old ++ map (resumed edit.del edit.ins) old.now) (λ _. 1024 < length rows.old + length old.now) }
+    ensures { MatchResult result (λ _. AllByRecursion (λ row. Small (resumed edit.del edit.ins row)) old.now → rows.new.rows.items ≡ rows.old.rows.items ++ map (resumed edit.del edit.ins) old.now) (λ _. 1024 < length rows.old.rows.items + length old.now) }
 {
     append(rows, old, |row| resumed(row, edit))
 }

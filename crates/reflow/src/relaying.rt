@@ -44,8 +44,8 @@ fn break_until_met<T: Characters, M: Measurer, P: Policy>(
     ensures lenders { M.lenders setter.new.measurer ≡ M.lenders setter.old.measurer }
     ensures policy { setter.new.policy ≡ setter.old.policy }
     ensures within { IfOk result (λ j. j ≤ length old.now) }
-    ensures counted { OnOk result ((length rows.old ≤ length rows.new) × (setter.old.tally < 2 ^ 64 → setter.new.tally ≡ (setter.old.tally + (length rows.new - length rows.old)) % 2 ^ 64)) }
-    ensures met { (new : List OneRow) → Changed (M.meaning setter.old.measurer) (P.rules setter.old.policy) setter.old.measure (T.chars text.now) edit old.now new → Underway (M.meaning setter.old.measurer) (P.rules setter.old.policy) setter.old.measure (T.chars text.now) edit old.now new rows.old start → MatchResult result (λ j. Resumes edit old.now new rows.new j) (λ f. (f ≡ TooManyRows) × (most_rows < length new)) }
+    ensures counted { OnOk result ((length rows.old.rows.items ≤ length rows.new.rows.items) × (setter.old.tally < 2 ^ 64 → setter.new.tally ≡ (setter.old.tally + (length rows.new.rows.items - length rows.old.rows.items)) % 2 ^ 64)) }
+    ensures met { (new : List OneRow) → Changed (M.meaning setter.old.measurer) (P.rules setter.old.policy) setter.old.measure (T.chars text.now) edit old.now new → Underway (M.meaning setter.old.measurer) (P.rules setter.old.policy) setter.old.measure (T.chars text.now) edit old.now new rows.old.rows.items start → MatchResult result (λ j. Resumes edit old.now new rows.new.rows.items j) (λ f. (f ≡ TooManyRows) × (most_rows < length new)) }
 {
     let mut start = start;
     let mut from = 0;
@@ -78,7 +78,7 @@ pub fn relay<T: Characters, M: Measurer, P: Policy>(
     ensures lenders { M.lenders setter.new.measurer ≡ M.lenders setter.old.measurer }
     ensures policy { setter.new.policy ≡ setter.old.policy }
     ensures laws { ReflowLaws (M.meaning setter.old.measurer) (P.rules setter.old.policy) setter.old.measure }
-    ensures relaid { Relaid (M.meaning setter.old.measurer) (P.rules setter.old.policy) setter.old.measure (T.chars text.now) edit old.now result rows.new setter.old.tally setter.new.tally }
+    ensures relaid { Relaid (M.meaning setter.old.measurer) (P.rules setter.old.policy) setter.old.measure (T.chars text.now) edit old.now result rows.new.rows.items setter.old.tally setter.new.tally }
 {
     rows.clear();
     let first = first_reaching(old, edit);

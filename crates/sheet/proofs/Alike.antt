@@ -12,6 +12,6 @@ use Rattle.sheet.specs.declared.sheet.Sheet.{Sheet}
 Laid-prop : (k : Style) (t : List ℕ) (rows : List Row) → IsProp (Laid k t rows)
 Laid-prop k t rows = Prim.hlevel codes
 
-pub alike : {M P : Type 0} {m : Measurer M} {p : Policy P} (s : Sheet M P m p) (l : Laid (style m.meaning p.rules s.setter) s.text s.rows)
+pub alike : {M P : Type 0} {m : Measurer M} {p : Policy P} (s : Sheet M P m p) (l : Laid (style m.meaning p.rules s.setter) s.text s.rows.rows.items)
     → ◌≡◌ {A = Sheet M P m p} (record { setter = s.setter; text = s.text; rows = s.rows; spare = s.spare; owed = s.owed; laid = l }) s
 alike s l = λ i. record { setter = s.setter; text = s.text; rows = s.rows; spare = s.spare; owed = s.owed; laid = Laid-prop _ _ _ l s.laid i }

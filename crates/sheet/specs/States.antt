@@ -10,7 +10,7 @@ state {m = m} {p = p} s = record {
   rules = p.rules s.setter.policy;
   measure = s.setter.measure;
   text = s.text;
-  rows = s.rows;
+  rows = s.rows.rows.items;
   owed = s.owed;
   tally = s.setter.tally;
 }

@@ -24,7 +24,7 @@ pub struct Sheet<M: Measurer, P: Policy> {
     rows: RowList,
     spare: RowList,
     owed: Option<Repaint>,
-    ghost laid: { Laid (style M.meaning P.rules setter) text rows },
+    ghost laid: { Laid (style M.meaning P.rules setter) text rows.rows.items },
 }
 
 // A debt of one repaint. Whoever has one must settle it: it cannot be let go, nor settled twice.

@@ -36,7 +36,7 @@ impl<M: Measurer + Drop, P: Policy + Drop> Sheet<M, P> {
 
 // The rows of an empty text.
 fn one_empty_row(heap: Global) -> Result<RowList, AllocError>
-    ensures { IfOk result (λ l. l ≡ empty_row ∷ []) }
+    ensures { IfOk result (λ l. l.rows.items ≡ empty_row ∷ []) }
 {
     let mut rows = RowList::new(heap)?;
     let _ = rows.push(Row {

@@ -5,5 +5,5 @@ use Rattle.reflow.proofs.carrying.append.Given as goal
 
 abbrev pub invariant-loop-row : goal.invariant-loop-row
 invariant-loop-row g l =
-    (length l.rows ≡ length l.initial.rows + l.row-index)
-    × ((new : List Row) × (l.rows ≡ l.initial.rows ++ new) × AllZip (goal.F-post g l.becomes) (take l.row-index l.old) new)
+    (length l.rows.rows.items ≡ length l.initial.rows.rows.items + l.row-index)
+    × ((new : List Row) × (l.rows.rows.items ≡ l.initial.rows.rows.items ++ new) × AllZip (goal.F-post g l.becomes) (take l.row-index l.old) new)

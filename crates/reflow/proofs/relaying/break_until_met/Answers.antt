@@ -23,7 +23,7 @@ returns-in-Ok g c =
       policy = inv.5;
       within = omega (arith, met.among);
       counted = (inv.1, inv.2);
-      met = λ new ch u. resumes_at k.meaning k.rules k.measure t c.args.edit c.args.old.now new c.rows.rows c.rows.start (inv.3 new ch u) ch c.in-Ok.met met;
+      met = λ new ch u. resumes_at k.meaning k.rules k.measure t c.args.edit c.args.old.now new c.rows.rows.rows.items c.rows.start (inv.3 new ch u) ch c.in-Ok.met met;
     }
 
 pub returns-in_err-row : goal.returns-in_err-row
@@ -52,9 +52,9 @@ returns-in_default g c =
     let t = g.T.Characters.chars c.args.text.now in
     let e = c.args.edit in
     let old = c.args.old.now in
-    let first = c.args.rows.now in
-    let done = c.rows.rows in
-    let more = c.push.new.self in
+    let first = c.args.rows.now.rows.items in
+    let done = c.rows.rows.rows.items in
+    let more = c.push.new.self.rows.items in
     let start = c.rows.start in
     let r = c.in_ok-row.row in
     let pushed : more ≡ done ++ r ∷ [] = c.in_ok-push.ensures.value in
@@ -77,7 +77,7 @@ returns-in_default g c =
 
 pub rows-smaller : goal.rows-smaller
 rows-smaller g c =
-    let long = ap length c.in_ok-push.ensures.value ∙ length_push c.rows.rows c.in_ok-row.row in
+    let long = ap length c.in_ok-push.ensures.value ∙ length_push c.rows.rows.rows.items c.in_ok-row.row in
     omega (arith, long, c.rows-test.true, c.len.ensures.value)
 
 pub rows-preserved : goal.rows-preserved
@@ -89,9 +89,9 @@ rows-preserved g c =
     let t = g.T.Characters.chars c.args.text.now in
     let e = c.args.edit in
     let old = c.args.old.now in
-    let first = c.args.rows.now in
-    let done = c.rows.rows in
-    let more = c.push.new.self in
+    let first = c.args.rows.now.rows.items in
+    let done = c.rows.rows.rows.items in
+    let more = c.push.new.self.rows.items in
     let start = c.rows.start in
     let s' = c.in-Some.next in
     let r = c.in_ok-row.row in
@@ -125,7 +125,7 @@ returns g c =
     let inv = c.rows.invariant in
     let k = style g.M.Measurer.meaning g.P.Policy.rules c.args.setter.now in
     let t = g.T.Characters.chars c.args.text.now in
-    let done = c.rows.rows in
+    let done = c.rows.rows.rows.items in
     let full : most_rows ≤ length done = omega (arith, c.rows-test.false, c.len.ensures.value) in
     record {
       kept = inv.0;

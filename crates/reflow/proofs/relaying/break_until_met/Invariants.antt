@@ -11,8 +11,8 @@ abbrev pub invariant-rows : goal.invariant-rows
 invariant-rows g l =
     let t = g.T.Characters.chars l.text in
     let k = style g.M.Measurer.meaning g.P.Policy.rules l.initial.setter in
-    let done = l.rows in
-    let first = l.initial.rows in
+    let done = l.rows.rows.items in
+    let first = l.initial.rows.rows.items in
     (style g.M.Measurer.meaning g.P.Policy.rules l.setter ≡ k)
     × (length first ≤ length done)
     × (l.initial.setter.tally < 2 ^ 64 → l.setter.tally ≡ (l.initial.setter.tally + (length done - length first)) % 2 ^ 64)
@@ -24,4 +24,4 @@ invariant-rows g l =
     × (g.M.Measurer.lenders l.setter.measurer ≡ g.M.Measurer.lenders l.initial.setter.measurer)
 
 abbrev pub decreases-rows : goal.decreases-rows
-decreases-rows g l = most_rows - length l.rows
+decreases-rows g l = most_rows - length l.rows.rows.items

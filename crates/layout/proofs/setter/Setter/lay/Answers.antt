@@ -20,7 +20,7 @@ returns-in_err-row g c =
     let told = c.in_err-row.ensures in
     let k = style g.M.Measurer.meaning g.P.Policy.rules c.args.self.now in
     let t = g.T.Characters.chars c.args.text.now in
-    let done = c.rows.rows in
+    let done = c.rows.rows.rows.items in
     let u = c.in_err-row.field-0.0 in
     let short : length done < most_rows = omega (arith, c.rows-test.true, c.len.ensures.value) in
     let p = err_from_is_err_and c.from_residual.result c.from_residual.ensures.1 in
@@ -43,7 +43,7 @@ returns-in_default g c =
     let told = c.in_ok-row.ensures in
     let k = style g.M.Measurer.meaning g.P.Policy.rules c.args.self.now in
     let t = g.T.Characters.chars c.args.text.now in
-    let done = c.rows.rows in
+    let done = c.rows.rows.rows.items in
     let r = c.in_ok-row.row in
     let short : length done < most_rows = omega (arith, c.rows-test.true, c.len.ensures.value) in
     let found : row_from k.meaning k.rules k.measure t c.rows.start ≡ Ok r =
@@ -64,7 +64,7 @@ returns-in_default g c =
 
 pub rows-smaller : goal.rows-smaller
 rows-smaller g c =
-    let long = ap length c.in_ok-push.ensures.value ∙ length_push c.rows.rows c.in_ok-row.row in
+    let long = ap length c.in_ok-push.ensures.value ∙ length_push c.rows.rows.rows.items c.in_ok-row.row in
     omega (arith, long, c.rows-test.true, c.len.ensures.value)
 
 pub rows-preserved : goal.rows-preserved
@@ -73,8 +73,8 @@ rows-preserved g c =
     let told = c.in_ok-row.ensures in
     let k = style g.M.Measurer.meaning g.P.Policy.rules c.args.self.now in
     let t = g.T.Characters.chars c.args.text.now in
-    let done = c.rows.rows in
-    let more = c.push.new.self in
+    let done = c.rows.rows.rows.items in
+    let more = c.push.new.self.rows.items in
     let r = c.in_ok-row.row in
     let s' = c.in-Some.next in
     let pushed : more ≡ done ++ r ∷ [] = c.in_ok-push.ensures.value in
@@ -99,7 +99,7 @@ returns g c =
     let inv = c.rows.invariant in
     let k = style g.M.Measurer.meaning g.P.Policy.rules c.args.self.now in
     let t = g.T.Characters.chars c.args.text.now in
-    let done = c.rows.rows in
+    let done = c.rows.rows.rows.items in
     let full : most_rows ≤ length done = omega (arith, c.rows-test.false, c.len.ensures.value) in
     let ended : Ended (laid k.meaning k.rules k.measure t) (Err TooManyRows) done (length done) =
     stopped_full k.meaning k.rules k.measure t most_rows done c.rows.start (laid k.meaning k.rules k.measure t) inv.2 full in

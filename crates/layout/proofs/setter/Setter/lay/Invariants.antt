@@ -9,7 +9,7 @@ abbrev pub invariant-rows : goal.invariant-rows
 invariant-rows g l =
     let t = g.T.Characters.chars l.text in
     let k = style g.M.Measurer.meaning g.P.Policy.rules l.initial.self in
-    let done = l.rows in
+    let done = l.rows.rows.items in
     (style g.M.Measurer.meaning g.P.Policy.rules l.self ≡ k)
     × (l.start ≤ length t)
     × (behind done (laid_from k.meaning k.rules k.measure t (most_rows - length done) l.start) ≡ laid k.meaning k.rules k.measure t)
@@ -19,4 +19,4 @@ invariant-rows g l =
     × (g.M.Measurer.lenders l.self.measurer ≡ g.M.Measurer.lenders l.initial.self.measurer)
 
 abbrev pub decreases-rows : goal.decreases-rows
-decreases-rows g l = most_rows - length l.rows
+decreases-rows g l = most_rows - length l.rows.rows.items

@@ -62,7 +62,7 @@ returns g c =
     let P = g.P.Policy.rules c.args.self.now.policy in
     let w = c.args.self.now.measure in
     let t = c.args.text.now in
-    let is : setting_of m P w t ≡ Ok c.lay-laid.new.rows =
+    let is : setting_of m P w t ≡ Ok c.lay-laid.new.rows.rows.items =
     set_by_layout m P w t tt
     (told_none (first_uncovered m 0 t) tt (checked.value ∙ ap (λ (x : List ℕ). cover_answer (first_uncovered m 0 x)) c.as_slice.ensures.value))
     (ap (λ (x : Meaning). (laid x P w t).answer) (sym checked.same) ∙ sym (told.value))

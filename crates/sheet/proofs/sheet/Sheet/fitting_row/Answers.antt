@@ -8,7 +8,7 @@ use Rattle.sheet.proofs.sheet.Sheet.fitting_row.Given.{Over}
 use Rattle.sheet.proofs.sheet.Sheet.fitting_row.Goals.{In_ok-row}
 use Rattle.sheet.proofs.sheet.Sheet.fitting_row.Goals as goal
 
-there : (g : Over) (c : In_ok-row g) → slice_get c.args.self.now.rows c.args.number ≡ Some c.in_ok-row.field-0.now
+there : (g : Over) (c : In_ok-row g) → slice_get c.args.self.now.rows.rows.items c.args.number ≡ Some c.in_ok-row.field-0.now
 there g c =
     let few : c.args.number < length c.as_slice.result.now = search (rules, tests) in
     let at = subst (λ o. IfSome o (λ x. x.now ≡ get_or c.as_slice.result.now c.args.number x.now)) c.in_ok-row.ensures.ok_part c.get.ensures.lookup.1 in

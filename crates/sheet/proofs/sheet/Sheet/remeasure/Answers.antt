@@ -1,6 +1,7 @@
 -- Each way out is a way of the clean sheet's remeasure.
 use Rattle.std.proofs.Common.{◌≡◌, ℕ, ◌+◌, ◌-◌, ◌%◌, ◌^◌, ◌<◌, true, length, Some, sym, refl, ap, ◌∙◌, arith}
 use Rattle.layout.specs.Styles.{Style}
+use Rattle.layout.specs.declared.row_list.RowList.{RowList}
 use Rattle.reflow.specs.Edits.{rows_of}
 use Rattle.reflow.specs.declared.repaint.Repaint.{Repaint}
 use Rattle.sheet.proofs.Remeasuring.{laid_all, all_few, broken_all, grown, laid_right, refused_layout, remeasured_call, refused_owed, refused_many}
@@ -48,12 +49,12 @@ returns g c =
     let t = c.args.self.now.text in
     let v = c.args.self.now.laid.covered in
     let fits : c.args.self.now.setter.tally < 2 ^ 64 = omega arith in
-    let new-len : c.len-2.result ≡ length c.swap.new.x = c.len-2.ensures.value in
-    let old-len : c.len.result ≡ length c.args.self.now.rows = c.len.ensures.value ∙ ap length c.swap.ensures.y_after in
+    let new-len : c.len-2.result ≡ length c.swap.new.x.rows.items = c.len-2.ensures.value in
+    let old-len : c.len.result ≡ length c.args.self.now.rows.rows.items = c.len.ensures.value ∙ ap (λ (l : RowList). length l.rows.items) c.swap.ensures.y_after in
     record {
       follows = λ k h f.
           let ok = sym c.lay-laid.ensures.value ∙ laid_right c.lay-laid.result (sym c.is_err.ensures.value ∙ c.if-is_err.false) in
-          let items : c.swap.new.x ≡ rows_of m P w t = c.swap.ensures.x_after ∙ c.lay-laid.ensures.items ∙ laid_all m P w t v ok in
+          let items : c.swap.new.x.rows.items ≡ rows_of m P w t = ap (λ (l : RowList). l.rows.items) c.swap.ensures.x_after ∙ c.lay-laid.ensures.items ∙ laid_all m P w t v ok in
           let new : c.len-2.result ≡ length (rows_of m P w t) = new-len ∙ ap length items in
           let broken : (c.lay-laid.new.self.tally + (2 ^ 64 - c.args.self.now.setter.tally)) % 2 ^ 64 ≡ length (rows_of m P w t) =
           grown c.args.self.now.setter.tally c.lay-laid.new.self.tally (length (rows_of m P w t)) fits (all_few m P w t v ok) (c.lay-laid.ensures.counted ∙ ap (λ (n : ℕ). (c.args.self.now.setter.tally + n) % 2 ^ 64) (broken_all m P w t v ok)) in

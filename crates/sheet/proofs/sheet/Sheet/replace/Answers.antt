@@ -6,6 +6,7 @@ use Rattle.layout.proofs.Settling.{told_some, told_none}
 use Rattle.layout.specs.Styles.{Style}
 use Rattle.layout.specs.Covers.{first_uncovered}
 use Rattle.layout.specs.Layouts.{most_rows}
+use Rattle.layout.specs.declared.row_list.RowList.{RowList}
 use Rattle.reflow.specs.Edits.{rows_of}
 use Rattle.reflow.specs.Relaying.{Relaid, RelaidTo}
 use Rattle.layout.specs.declared.laying.LayFault.{LayFault}
@@ -75,9 +76,9 @@ returns-in_err-check_cover g c =
 -- what relaying came to, and that the edit was admitted before
 relayed : (g : Over) (c : After-relay g) (r : Result Repaint LayFault)
     → let s = c.args.self.now in let m = g.M.Measurer.meaning s.setter.measurer in let P = g.P.Policy.rules s.setter.policy in let w = s.setter.measure in
-    Relaid (g.M.Measurer.meaning c.check_cover.new.measurer) P w (edited c.new-view.result.text.now c.new-view.result.at c.new-view.result.del c.new-view.result.ins.now) (edit_of c.args.at c.args.del c.args.ins.now) c.as_slice.result.now r c.relay.new.rows s.setter.tally c.relay.new.setter.tally
+    Relaid (g.M.Measurer.meaning c.check_cover.new.measurer) P w (edited c.new-view.result.text.now c.new-view.result.at c.new-view.result.del c.new-view.result.ins.now) (edit_of c.args.at c.args.del c.args.ins.now) c.as_slice.result.now r c.relay.new.rows.rows.items s.setter.tally c.relay.new.setter.tally
     → Admits m s.text c.args.at c.args.del c.args.ins.now
-    × MatchResult r (λ p. RelaidTo (edit_of c.args.at c.args.del c.args.ins.now) s.rows (rows_of m P w (edited s.text c.args.at c.args.del c.args.ins.now)) p c.relay.new.rows s.setter.tally c.relay.new.setter.tally) (λ f. (f ≡ TooManyRows) × (most_rows < length (rows_of m P w (edited s.text c.args.at c.args.del c.args.ins.now))))
+    × MatchResult r (λ p. RelaidTo (edit_of c.args.at c.args.del c.args.ins.now) s.rows.rows.items (rows_of m P w (edited s.text c.args.at c.args.del c.args.ins.now)) p c.relay.new.rows.rows.items s.setter.tally c.relay.new.setter.tally) (λ f. (f ≡ TooManyRows) × (most_rows < length (rows_of m P w (edited s.text c.args.at c.args.del c.args.ins.now))))
 relayed g c r relaid =
     let n = c.len-len.ensures.value in
     let few = c.len-len.ensures.few in
@@ -119,7 +120,7 @@ returns g c =
         rules = ap (λ (x : Style). x.rules) told.kept;
         measure = ap (λ (x : Style). x.measure) told.kept;
         text = c.replace.ensures;
-        rows = c.swap.ensures.x_after ∙ x.1.items;
+        rows = ap (λ (l : RowList). l.rows.items) c.swap.ensures.x_after ∙ x.1.items;
         few_rows = x.1.few;
         owed = refl;
         painted = x.1.painted;
