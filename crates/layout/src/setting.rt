@@ -78,8 +78,8 @@ pub fn set_text<M: Measurer, P: Policy>(
 ) -> Result<RowList, SetFault>
     ensures same { M.meaning measurer.new ≡ M.meaning measurer.old }
     ensures lenders { M.lenders measurer.new ≡ M.lenders measurer.old }
-    ensures value { MatchResult result (λ l. setting_of (M.meaning measurer.old) (P.rules policy.now) measure text.now ≡ Ok l) (RefusalOf (setting_of (M.meaning measurer.old) (P.rules policy.now) measure text.now)) }
-    ensures first_fit { MatchResult result (λ l. Accepted (M.meaning measurer.old) (P.rules policy.now) measure text.now l) (RightlyNotSet (M.meaning measurer.old) (P.rules policy.now) measure text.now) }
+    ensures value { MatchResult result (λ l. setting_of (M.meaning measurer.old) (P.rules policy.now) measure text.now ≡ Ok l.rows.items) (RefusalOf (setting_of (M.meaning measurer.old) (P.rules policy.now) measure text.now)) }
+    ensures first_fit { MatchResult result (λ l. Accepted (M.meaning measurer.old) (P.rules policy.now) measure text.now l.rows.items) (RightlyNotSet (M.meaning measurer.old) (P.rules policy.now) measure text.now) }
 {
     Setter::new(measurer, policy, measure).set_text(heap, text)
 }
