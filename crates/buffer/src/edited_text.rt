@@ -1,6 +1,7 @@
 // A text as it would be after an edit.
 ghost use Rattle.std.specs.Prelude.{◌≡◌, ◌+◌, ◌-◌, ◌≤◌, length};
 ghost use Rattle.page.specs.Texts.{edited, most_characters};
+ghost use Rattle.buffer.specs.Held.{held};
 
 use crate::gap_buffer::GapBuffer;
 use page::text::Characters;
@@ -12,22 +13,22 @@ pub struct EditedText<'a> {
     at: usize,
     del: usize,
     ins: &'a [u8],
-    ghost within: { at + del ≤ length text.now },
-    ghost few: { length text.now - del + length ins.now ≤ most_characters },
+    ghost within: { at + del ≤ length (held text.now) },
+    ghost few: { length (held text.now) - del + length ins.now ≤ most_characters },
 }
 
 impl<'a> EditedText<'a> {
     pub fn new(text: &'a GapBuffer, at: usize, del: usize, ins: &'a [u8]) -> EditedText<'a>
-        requires within { at + del ≤ length text.now }
-        requires few { length text.now - del + length ins.now ≤ most_characters }
-        ensures { edited result.text.now result.at result.del result.ins.now ≡ edited text.now at del ins.now }
+        requires within { at + del ≤ length (held text.now) }
+        requires few { length (held text.now) - del + length ins.now ≤ most_characters }
+        ensures { edited (held result.text.now) result.at result.del result.ins.now ≡ edited (held text.now) at del ins.now }
     {
         EditedText { text, at, del, ins }
     }
 }
 
 impl Characters for EditedText<'_> {
-    ghost chars = { λ e. edited e.text.now e.at e.del e.ins.now };
+    ghost chars = { λ e. edited (held e.text.now) e.at e.del e.ins.now };
 
     fn len(&self) -> usize {
         self.text.len() - self.del + self.ins.len()

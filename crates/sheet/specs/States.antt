@@ -1,6 +1,7 @@
 -- The state of a sheet.
 use Rattle.metrics.specs.declared.measurer.Measurer.{Ghosts as Measurer}
 use Rattle.page.specs.declared.policy.Policy.{Ghosts as Policy}
+use Rattle.buffer.specs.Held.{held}
 use Rattle.sheet.specs.Histories.{State}
 use Rattle.sheet.specs.declared.sheet.Sheet.{Sheet}
 
@@ -9,7 +10,7 @@ state {m = m} {p = p} s = record {
   meaning = m.meaning s.setter.measurer;
   rules = p.rules s.setter.policy;
   measure = s.setter.measure;
-  text = s.text;
+  text = held s.text;
   rows = s.rows.rows.items;
   owed = s.owed;
   tally = s.setter.tally;

@@ -1,4 +1,5 @@
 // The sheet.
+ghost use Rattle.buffer.specs.Held.{held};
 ghost use Rattle.layout.specs.Styles.{style};
 ghost use Rattle.sheet.specs.Laid.{Laid};
 
@@ -24,7 +25,7 @@ pub struct Sheet<M: Measurer, P: Policy> {
     rows: RowList,
     spare: RowList,
     owed: Option<Repaint>,
-    ghost laid: { Laid (style M.meaning P.rules setter) text rows.rows.items },
+    ghost laid: { Laid (style M.meaning P.rules setter) (held text) rows.rows.items },
 }
 
 // A debt of one repaint. Whoever has one must settle it: it cannot be let go, nor settled twice.

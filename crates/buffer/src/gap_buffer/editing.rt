@@ -2,6 +2,7 @@
 ghost use Rattle.std.specs.Prelude.{◌≡◌, ◌+◌, ◌-◌, ◌≤◌, [], length, IfOk};
 ghost use Rattle.page.specs.Texts.{edited, most_characters};
 ghost use Rattle.buffer.specs.Gaps.{around};
+ghost use Rattle.buffer.specs.Held.{held};
 
 use super::GapBuffer;
 use page::text::MAX_CHARACTERS;
@@ -9,7 +10,7 @@ use std::alloc::{AllocError, Global};
 
 impl GapBuffer {
     pub fn new(heap: Global) -> Result<GapBuffer, AllocError>
-        ensures { IfOk result (λ g. g ≡ []) }
+        ensures { IfOk result (λ g. held g ≡ []) }
     {
         let bytes = vec![in heap; 0; MAX_CHARACTERS]?;
         Ok(GapBuffer {
@@ -21,9 +22,9 @@ impl GapBuffer {
 
     // Puts `ins` in place of the `del` characters at `at`.
     pub fn replace(&mut self, at: usize, del: usize, ins: &[u8])
-        requires within { at + del ≤ length self.old }
-        requires room { length self.old - del + length ins.now ≤ most_characters }
-        ensures { self.new ≡ edited self.old at del ins.now }
+        requires within { at + del ≤ length (held self.old) }
+        requires room { length (held self.old) - del + length ins.now ≤ most_characters }
+        ensures { held self.new ≡ edited (held self.old) at del ins.now }
     {
         let end = move_gap(&mut self.bytes, self.gap_start, self.gap_end, at);
         let start = at + ins.len();

@@ -18,6 +18,7 @@ impl<M: Measurer, P: Policy> Sheet<M, P> {
     // record.
     pub fn edges(&mut self, number: usize, edges: &mut [u32]) -> Result<Row, RowFault>
         ensures same { state self.new ≡ state self.old }
+        ensures text { self.new.text ≡ self.old.text }
         ensures rows { self.new.rows ≡ self.old.rows }
         ensures value { (k : Making) (h : History) → Follows k h (state self.old) → row_answer result edges.new ≡ edges_step k (clean_after k h) number edges.old }
         ensures kept { OnErr result ((edges.new ≡ edges.old) × (self.new ≡ self.old)) }

@@ -11,7 +11,7 @@ returns c =
     let at = c.args.at in
     let del = c.args.del in
     let ins = c.args.ins.now in
-    let g = c.self.inside in
+    let g = c.args.self.now in
     let bytes = c.move_gap-end.new.bytes in
     let end = c.move_gap-end.result in
     let k = at + length ins - at in
@@ -19,9 +19,8 @@ returns c =
     let is : put ≡ put_mid at k bytes.items ins =
     ap (λ l. put_mid at k l c.copy_from_slice.new.self) c.deref_mut.ensures.value ∙ ap (put_mid at k bytes.items) c.copy_from_slice.ensures.after
     in
-    let text = length-around g.bytes.items g.gap_start g.gap_end c.self.invariant.forward (omega arith) in
-    let same = ap length c.self.view_is in
+    let text = length-around g.bytes.items g.gap_start g.gap_end g.gapped.forward (omega arith) in
     let long : length put ≡ bytes.len = simp (length-append, length-take, length-drop) (omega arith) in
     ap (λ l. around l (at + length ins) (end + del)) (with_items_is bytes put long ∙ is)
     ∙ written bytes.items ins at end del k (omega arith) (omega arith) (omega arith) (omega arith) (omega arith)
-    ∙ ap (λ t. edited t at del ins) (c.move_gap-end.ensures.same ∙ c.self.view_is)
+    ∙ ap (λ t. edited t at del ins) c.move_gap-end.ensures.same

@@ -1,5 +1,6 @@
 use Rattle.std.proofs.Common.{◌≡◌, ℕ, ◌-◌, ◌++◌, length, drop, ap, ◌∙◌, arith}
 use Rattle.page.specs.Texts.{part}
+use Rattle.buffer.specs.Held.{held}
 use Rattle.layout.proofs.EdgeSteps.{length_part}
 use Rattle.layout.specs.Widths.{edges as edges_of}
 use Rattle.sheet.proofs.Edging.{all_covered, told_edges}
@@ -9,7 +10,7 @@ use Rattle.sheet.proofs.sheet.Sheet.edges.Goals as goal
 pub returns-clause-value : goal.returns-clause-value
 returns-clause-value g c =
     let r = c.in_ok-row.row in
-    let t = c.args.self.now.text in
+    let t = held c.args.self.now.text in
     let is = found _ _ r c.in_ok-row.ensures.value in
     let long : length (part t r.start r.end) ≡ r.end - r.start = length_part t r.start r.end c.in_ok-row.ensures.inside.1 in
     λ k h f. told_edges k h _ f c.args.number c.args.edges.now _ c.in_ok-row.ensures.value _

@@ -1,5 +1,6 @@
 -- Each way out is a way of the clean sheet's remeasure.
 use Rattle.std.proofs.Common.{◌≡◌, ℕ, ◌+◌, ◌-◌, ◌%◌, ◌^◌, ◌<◌, true, length, Some, sym, refl, ap, ◌∙◌, arith}
+use Rattle.buffer.specs.Held.{held}
 use Rattle.layout.specs.Styles.{Style}
 use Rattle.layout.specs.declared.row_list.RowList.{RowList}
 use Rattle.reflow.specs.Edits.{rows_of}
@@ -23,7 +24,7 @@ returns-then-is_err g c =
     let m = g.M.Measurer.meaning c.args.self.now.setter.measurer in
     let P = g.P.Policy.rules c.args.self.now.setter.policy in
     let w = c.args.measure in
-    let t = c.args.self.now.text in
+    let t = held c.args.self.now.text in
     let v = c.args.self.now.laid.covered in
     record {
       follows = λ k h f.
@@ -46,7 +47,7 @@ returns g c =
     let m = g.M.Measurer.meaning c.args.self.now.setter.measurer in
     let P = g.P.Policy.rules c.args.self.now.setter.policy in
     let w = c.args.measure in
-    let t = c.args.self.now.text in
+    let t = held c.args.self.now.text in
     let v = c.args.self.now.laid.covered in
     let fits : c.args.self.now.setter.tally < 2 ^ 64 = omega arith in
     let new-len : c.len-2.result ≡ length c.swap.new.x.rows.items = c.len-2.ensures.value in

@@ -2,6 +2,7 @@
 use Rattle.std.proofs.Common.{◌≡◌, ◌+◌, ◌-◌, ◌%◌, ◌^◌, ◌<◌, ◌≤◌, length, Ok, Err, Result, MatchResult, sym, refl, ap, ◌∙◌, arith}
 use Rattle.std.proofs.lemmas.Result.{err_from_is_err_and}
 use Rattle.page.specs.Texts.{edited}
+use Rattle.buffer.specs.Held.{held}
 use Rattle.layout.proofs.Settling.{told_some, told_none}
 use Rattle.layout.specs.Styles.{Style}
 use Rattle.layout.specs.Covers.{first_uncovered}
@@ -31,7 +32,7 @@ pub returns-then-at-len : goal.returns-then-at-len
 returns-then-at-len g c =
     let none = none_owed c.args.self.now.owed (sym c.is_some.ensures ∙ c.if-is_some.false) in
     let n = c.len-len.ensures.value in
-    let out : c.args.at ≤ length c.args.self.now.text → c.args.del ≤ length c.args.self.now.text - c.args.at → ⊥ = elim c.then-at-len.branch [
+    let out : c.args.at ≤ length (held c.args.self.now.text) → c.args.del ≤ length (held c.args.self.now.text) - c.args.at → ⊥ = elim c.then-at-len.branch [
       | then-at-len-via-then-at-len w ↦ λ a b. omega (arith, w.if-at-len.true)
       | then-at-len-via-else-at-len+then-del-len w ↦ λ a b. omega (arith, w.if-del-len.true)
     ] in
@@ -76,14 +77,14 @@ returns-in_err-check_cover g c =
 -- what relaying came to, and that the edit was admitted before
 relayed : (g : Over) (c : After-relay g) (r : Result Repaint LayFault)
     → let s = c.args.self.now in let m = g.M.Measurer.meaning s.setter.measurer in let P = g.P.Policy.rules s.setter.policy in let w = s.setter.measure in
-    Relaid (g.M.Measurer.meaning c.check_cover.new.measurer) P w (edited c.new-view.result.text.now c.new-view.result.at c.new-view.result.del c.new-view.result.ins.now) (edit_of c.args.at c.args.del c.args.ins.now) c.as_slice.result.now r c.relay.new.rows.rows.items s.setter.tally c.relay.new.setter.tally
-    → Admits m s.text c.args.at c.args.del c.args.ins.now
-    × MatchResult r (λ p. RelaidTo (edit_of c.args.at c.args.del c.args.ins.now) s.rows.rows.items (rows_of m P w (edited s.text c.args.at c.args.del c.args.ins.now)) p c.relay.new.rows.rows.items s.setter.tally c.relay.new.setter.tally) (λ f. (f ≡ TooManyRows) × (most_rows < length (rows_of m P w (edited s.text c.args.at c.args.del c.args.ins.now))))
+    Relaid (g.M.Measurer.meaning c.check_cover.new.measurer) P w (edited (held c.new-view.result.text.now) c.new-view.result.at c.new-view.result.del c.new-view.result.ins.now) (edit_of c.args.at c.args.del c.args.ins.now) c.as_slice.result.now r c.relay.new.rows.rows.items s.setter.tally c.relay.new.setter.tally
+    → Admits m (held s.text) c.args.at c.args.del c.args.ins.now
+    × MatchResult r (λ p. RelaidTo (edit_of c.args.at c.args.del c.args.ins.now) s.rows.rows.items (rows_of m P w (edited (held s.text) c.args.at c.args.del c.args.ins.now)) p c.relay.new.rows.rows.items s.setter.tally c.relay.new.setter.tally) (λ f. (f ≡ TooManyRows) × (most_rows < length (rows_of m P w (edited (held s.text) c.args.at c.args.del c.args.ins.now))))
 relayed g c r relaid =
     let n = c.len-len.ensures.value in
     let few = c.len-len.ensures.few in
     let checked = c.in_ok-check_cover.ensures in
-    let a : Admits (g.M.Measurer.meaning c.args.self.now.setter.measurer) c.args.self.now.text c.args.at c.args.del c.args.ins.now =
+    let a : Admits (g.M.Measurer.meaning c.args.self.now.setter.measurer) (held c.args.self.now.text) c.args.at c.args.del c.args.ins.now =
     record { in_text = omega arith; in_rest = omega arith; fits = omega arith; glyphs = told_none (first_uncovered (g.M.Measurer.meaning c.args.self.now.setter.measurer) 0 c.args.ins.now) tt checked.value } in
     (a, laid_anew r _ _ _ c.args.self.now.laid checked.same a c.new-view.ensures c.as_slice.ensures.value relaid)
 
@@ -100,13 +101,13 @@ returns-in_err-record g c =
       early = rw (p.1, p.2) (λ x. absurd (never_early c.in_err-record.field-0.0 x));
     }
 
-pub invariant_of-self-2 : goal.invariant_of-self-2
-invariant_of-self-2 g c =
+pub invariant_of-self-3 : goal.invariant_of-self-3
+invariant_of-self-3 g c =
     let told = c.in_ok-record.ensures in
-    let x = relayed g (goal.at.invariant_of-self-2 g c).After-relay (Ok c.in_ok-record.record) told.relaid in
+    let x = relayed g (goal.at.invariant_of-self-3 g c).After-relay (Ok c.in_ok-record.record) told.relaid in
     record {
       laid = rw (told.kept, c.in_ok-check_cover.ensures.same, c.replace.ensures, c.swap.ensures.x_after)
-          (record { covered = covered_edited _ c.args.self.now.text c.args.at c.args.del c.args.ins.now c.args.self.now.laid.covered x.0.glyphs; first_fit = x.1.items });
+          (record { covered = covered_edited _ (held c.args.self.now.text) c.args.at c.args.del c.args.ins.now c.args.self.now.laid.covered x.0.glyphs; first_fit = x.1.items });
     }
 
 pub returns : goal.returns
