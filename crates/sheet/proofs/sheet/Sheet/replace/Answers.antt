@@ -46,16 +46,15 @@ returns-then-at-len g c =
       early = λ _. same;
     }
 
-pub returns-then-ins-len : goal.returns-then-ins-len
-returns-then-ins-len g c =
+pub returns-then-ins-len-clause-early : goal.returns-then-ins-len-clause-early
+returns-then-ins-len-clause-early g c = λ _. alike _ _
+
+pub returns-then-ins-len-clause-follows : goal.returns-then-ins-len-clause-follows
+returns-then-ins-len-clause-follows g c =
     let none = none_owed c.args.self.now.owed (sym c.is_some.ensures ∙ c.if-is_some.false) in
     let n = c.len-len.ensures.value in
     let few = c.len-len.ensures.few in
-    record {
-      follows = λ k h f. refused_long k h _ _ f c.args.at c.args.del c.args.ins.now (as_it_was _) none (omega arith) (omega arith) (omega arith);
-      counted = tt;
-      early = λ _. alike _ _;
-    }
+    λ k h f. refused_long k h _ _ f c.args.at c.args.del c.args.ins.now (as_it_was _) none (omega arith) (omega arith) (omega arith)
 
 pub returns-in_err-check_cover : goal.returns-in_err-check_cover
 returns-in_err-check_cover g c =
