@@ -40,9 +40,9 @@ impl Characters for EditedText<'_> {
         } else if at < self.at + self.ins.len() {
             Some(self.ins[at - self.at])
         } else {
-            // as far from the end as in the text
-            let left = self.len().checked_sub(at)?;
-            self.text.get(self.text.len() - left)
+            // a place that is no number of the machine's lies behind every text
+            self.text
+                .get((at - self.ins.len()).saturating_add(self.del))
         }
     }
 }

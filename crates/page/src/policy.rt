@@ -72,17 +72,11 @@ impl Policy for Breaks {
     ghost rules = { breaks_rules };
 
     fn may_break(&self, before: u8, after: u8) -> bool {
-        match self {
-            Breaks::Spaces => Spaces.may_break(before, after),
-            Breaks::Anywhere => Anywhere.may_break(before, after),
-        }
+        *self == Breaks::Anywhere || Spaces.may_break(before, after)
     }
 
     fn hangs(&self, c: u8) -> bool {
-        match self {
-            Breaks::Spaces => Spaces.hangs(c),
-            Breaks::Anywhere => Anywhere.hangs(c),
-        }
+        *self == Breaks::Spaces && Spaces.hangs(c)
     }
 }
 
