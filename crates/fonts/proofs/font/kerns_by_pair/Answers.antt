@@ -1,5 +1,5 @@
 use Rattle.std.proofs.Common.{get_or, take, pos, sym, ap, ◌∙◌, subst, w16, SFits, to_z, of_z, rules}
-use Rattle.std.proofs.lemmas.List.{take_more, take_all}
+use Rattle.std.proofs.lemmas.List.{take_more}
 use Rattle.std.proofs.lemmas.Int.{to_z-of_z}
 use Rattle.metrics.specs.declared.entry.KernPair.{KernPair}
 use Rattle.fonts.specs.Font.{Searchable, kern_at, kern_in}
