@@ -4,7 +4,8 @@ ghost use Rattle.page.specs.Measures.{Measures};
 
 use page::measure::Measure;
 
-// A measurer, a policy and a measure, and how many rows were broken with them, modulo 2^64.
+// A measurer, a policy and a measure, and how many rows its calls broke, modulo 2^64; `set_text` counts
+// none of its own.
 #[derive(Drop)]
 pub struct Setter<M, P> {
     pub measurer: M,

@@ -61,7 +61,8 @@ impl Policy for Anywhere {
     }
 }
 
-// Either policy, chosen while a program runs.
+// Either policy, chosen while a program runs. Its answers are sums of tests and no `match`, since they are
+// asked for each character.
 #[derive(Clone, Copy, Debug, PartialEq, Eq)]
 pub enum Breaks {
     Spaces,
