@@ -24,6 +24,7 @@ pub fn pile(font: Font, cells: Cells, units: TrackingUnits) -> Pile
     ensures units { result.below.units ≡ units }
     ensures held { result.pairs.slots ≡ replicate most_held None }
     ensures meaning { ⟦<Pile as Measurer>⟧.meaning result ≡ piled (table_meaning font.widths font.kerns) cells.size units }
+    ensures sound { ⟦<Pile as Measurer>⟧.sound result }
     ensures worked { Worked }
 {
     AdvanceCache::new(Tracking::new(Fallback::new(font, cells), units))

@@ -51,6 +51,11 @@ Apart s = (j k : ℕ) → SamePair (slice_index_or s j None) (slice_index_or s k
 abbrev pub Right : Meaning → Slots → Type 0
 Right m s = (k : ℕ) (p : Option ℕ) (c a : ℕ) → At s k p c a → (m.covers c ≡ true) × (a ≡ m.adv p c)
 
+-- a cache is sound if the layer below is, and every advance held is right
+pub record SoundCache {B : Type 0} (sound : B → Type 0) (meaning : B → Meaning) (b : B) (s : Slots) : Type 0 where
+  pub below : sound b
+  pub right : Right (meaning b) s
+
 -- What the question for the advance of c after p, answered by r, does to the slots, s before and s'
 -- after, and to the layer below, b before and b' after.
 pub record Keeps {B : Type 0} (s s' : Slots) (b b' : B) (p : Option ℕ) (c : ℕ)

@@ -1,7 +1,7 @@
 // The advance cache: the layer below is asked once for a pair, as long as the pair is held.
 ghost use Rattle.std.specs.Prelude.{◌≡◌, ℕ, ◌+◌, ◌%◌, ◌<◌, length, replicate, Some, None, Decides, MatchOption, slice_set};
 ghost use Rattle.metrics.specs.Meaning.{answer};
-ghost use Rattle.layers.specs.Cache.{cached, most_held, At, Holds, Apart, FillsInTurn, Right, Keeps};
+ghost use Rattle.layers.specs.Cache.{cached, most_held, At, Holds, Apart, FillsInTurn, SoundCache, Keeps};
 ghost use Rattle.std.proofs.Common.{rules};
 
 use metrics::fault::MissingGlyph;
@@ -72,22 +72,24 @@ impl HeldPairs {
 
 // The measurer below, with the advances of at most 64 pairs.
 #[derive(Drop)]
-pub struct AdvanceCache<M: Measurer> {
+pub struct AdvanceCache<M> {
     below: M,
     pairs: HeldPairs,
-    ghost right: { Right (M.meaning below) pairs.slots },
 }
 
 impl<M: Measurer> AdvanceCache<M> {
     pub fn new(below: M) -> AdvanceCache<M>
-        ensures { (result.below ≡ below) × (result.pairs.slots ≡ replicate most_held None) }
+        ensures made { (result.below ≡ below) × (result.pairs.slots ≡ replicate most_held None) }
+        ensures sound { M.sound below → SoundCache M.sound M.meaning result.below result.pairs.slots }
     {
         AdvanceCache {
             below,
             pairs: HeldPairs::new(),
         }
     }
+}
 
+impl<M> AdvanceCache<M> {
     // Whether the advance of `c` after `before` would be answered without asking below.
     pub fn held(&self, before: Option<u8>, c: u8) -> bool
         ensures { Decides result (Holds self.now.pairs.slots before c) }
@@ -99,6 +101,8 @@ impl<M: Measurer> AdvanceCache<M> {
 impl<M: Measurer> Measurer for AdvanceCache<M> {
     ghost meaning = { λ cache. cached (M.meaning cache.below) };
 
+    ghost sound = { λ cache. SoundCache M.sound M.meaning cache.below cache.pairs.slots };
+
     ghost lenders = { λ cache. M.lenders cache.below };
 
     ghost bounded = { Prim.search rules };
@@ -106,7 +110,8 @@ impl<M: Measurer> Measurer for AdvanceCache<M> {
     fn covers(&mut self, c: u8) -> bool
         ensures same { cached (M.meaning self.new.below) ≡ cached (M.meaning self.old.below) }
         ensures lenders { M.lenders self.new.below ≡ M.lenders self.old.below }
-        ensures value { result ≡ (M.meaning self.old.below).covers c }
+        ensures stays { SoundCache M.sound M.meaning self.old.below self.old.pairs.slots → SoundCache M.sound M.meaning self.new.below self.new.pairs.slots }
+        ensures value { SoundCache M.sound M.meaning self.old.below self.old.pairs.slots → result ≡ (M.meaning self.old.below).covers c }
         ensures keeps { self.new.pairs.slots ≡ self.old.pairs.slots }
     {
         self.below.covers(c)
@@ -115,7 +120,8 @@ impl<M: Measurer> Measurer for AdvanceCache<M> {
     fn advance(&mut self, before: Option<u8>, c: u8) -> Result<u16, MissingGlyph>
         ensures same { cached (M.meaning self.new.below) ≡ cached (M.meaning self.old.below) }
         ensures lenders { M.lenders self.new.below ≡ M.lenders self.old.below }
-        ensures value { result ≡ answer (cached (M.meaning self.old.below)) before c }
+        ensures stays { SoundCache M.sound M.meaning self.old.below self.old.pairs.slots → SoundCache M.sound M.meaning self.new.below self.new.pairs.slots }
+        ensures value { SoundCache M.sound M.meaning self.old.below self.old.pairs.slots → result ≡ answer (cached (M.meaning self.old.below)) before c }
         ensures keeps { Keeps self.old.pairs.slots self.new.pairs.slots self.old.below self.new.below before c result }
     {
         if let Some(advance) = self.pairs.find(before, c) {

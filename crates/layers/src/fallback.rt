@@ -15,7 +15,8 @@ pub struct Fallback<A, B> {
 
 impl<A: Measurer, B: Measurer> Fallback<A, B> {
     pub fn new(first: A, second: B) -> Fallback<A, B>
-        ensures { (result.first ≡ first) × (result.second ≡ second) }
+        ensures made { (result.first ≡ first) × (result.second ≡ second) }
+        ensures sound { A.Measurer.sound first × B.Measurer.sound second → A.Measurer.sound result.first × B.Measurer.sound result.second }
     {
         Fallback { first, second }
     }
@@ -23,6 +24,8 @@ impl<A: Measurer, B: Measurer> Fallback<A, B> {
 
 impl<A: Measurer, B: Measurer> Measurer for Fallback<A, B> {
     ghost meaning = { λ f. fallen_back (A.Measurer.meaning f.first) (B.Measurer.meaning f.second) };
+
+    ghost sound = { λ f. A.Measurer.sound f.first × B.Measurer.sound f.second };
 
     ghost lenders = { λ f. A.Measurer.lenders f.first ++ B.Measurer.lenders f.second };
 

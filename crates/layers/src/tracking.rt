@@ -46,7 +46,8 @@ pub struct Tracking<M> {
 
 impl<M: Measurer> Tracking<M> {
     pub fn new(below: M, units: TrackingUnits) -> Tracking<M>
-        ensures { (result.below ≡ below) × (result.units ≡ units) }
+        ensures made { (result.below ≡ below) × (result.units ≡ units) }
+        ensures sound { M.sound below → M.sound result.below }
     {
         Tracking { below, units }
     }
@@ -54,6 +55,8 @@ impl<M: Measurer> Tracking<M> {
 
 impl<M: Measurer> Measurer for Tracking<M> {
     ghost meaning = { λ t. tracked t.units (M.meaning t.below) };
+
+    ghost sound = { λ t. M.sound t.below };
 
     ghost lenders = { λ t. M.lenders t.below };
 

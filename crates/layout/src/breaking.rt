@@ -21,8 +21,9 @@ impl<M: Measurer, P: Policy> Setter<M, P> {
         ensures kept { style M.meaning P.rules self.new ≡ style M.meaning P.rules self.old }
         ensures lenders { M.lenders self.new.measurer ≡ M.lenders self.old.measurer }
         ensures policy { self.new.policy ≡ self.old.policy }
-        ensures value { result ≡ row_from (M.meaning self.old.measurer) (P.rules self.old.policy) self.old.measure (T.chars text.now) (min start (length (T.chars text.now))) }
-        ensures first_fit { RightlyBroken (M.meaning self.old.measurer) (P.rules self.old.policy) self.old.measure (T.chars text.now) (min start (length (T.chars text.now))) result }
+        ensures stays { M.sound self.old.measurer → M.sound self.new.measurer }
+        ensures value { M.sound self.old.measurer → result ≡ row_from (M.meaning self.old.measurer) (P.rules self.old.policy) self.old.measure (T.chars text.now) (min start (length (T.chars text.now))) }
+        ensures first_fit { M.sound self.old.measurer → RightlyBroken (M.meaning self.old.measurer) (P.rules self.old.policy) self.old.measure (T.chars text.now) (min start (length (T.chars text.now))) result }
         ensures laws { RowLaws (M.meaning self.old.measurer) (P.rules self.old.policy) self.old.measure }
         ensures few { length (T.chars text.now) ≤ most_characters }
         ensures counted { self.new.tally ≡ (self.old.tally + 1) % 2 ^ 64 }

@@ -25,7 +25,8 @@ impl Uncovered {
 fn lacking<M: Measurer>(measurer: &mut M, c: u8) -> Option<MissingGlyph>
     ensures same { M.meaning measurer.new ≡ M.meaning measurer.old }
     ensures lenders { M.lenders measurer.new ≡ M.lenders measurer.old }
-    ensures value { result ≡ lacking (M.meaning measurer.old) c }
+    ensures stays { M.sound measurer.old → M.sound measurer.new }
+    ensures value { M.sound measurer.old → result ≡ lacking (M.meaning measurer.old) c }
 {
     if c == NEWLINE || measurer.covers(c) {
         return None;
@@ -37,7 +38,8 @@ fn lacking<M: Measurer>(measurer: &mut M, c: u8) -> Option<MissingGlyph>
 pub fn check_cover<M: Measurer>(measurer: &mut M, chars: &[u8]) -> Result<(), Uncovered>
     ensures same { M.meaning measurer.new ≡ M.meaning measurer.old }
     ensures lenders { M.lenders measurer.new ≡ M.lenders measurer.old }
-    ensures value { result ≡ cover_answer (first_uncovered (M.meaning measurer.old) 0 chars.now) }
+    ensures stays { M.sound measurer.old → M.sound measurer.new }
+    ensures value { M.sound measurer.old → result ≡ cover_answer (first_uncovered (M.meaning measurer.old) 0 chars.now) }
 {
     for (offset, c) in chars.iter().enumerate() {
         if let Some(glyph) = lacking(measurer, *c) {

@@ -18,7 +18,8 @@ pub fn write_edges<T: Characters, M: Measurer>(
 )
     ensures same { M.meaning measurer.new ≡ M.meaning measurer.old }
     ensures lenders { M.lenders measurer.new ≡ M.lenders measurer.old }
-    ensures value { AllCovered (M.meaning measurer.old) (part (T.chars text.now) start end) → length (part (T.chars text.now) start end) ≤ length edges.old → edges.new ≡ edges_of (M.meaning measurer.old) (part (T.chars text.now) start end) ++ drop (length (part (T.chars text.now) start end)) edges.old }
+    ensures stays { M.sound measurer.old → M.sound measurer.new }
+    ensures value { M.sound measurer.old → AllCovered (M.meaning measurer.old) (part (T.chars text.now) start end) → length (part (T.chars text.now) start end) ≤ length edges.old → edges.new ≡ edges_of (M.meaning measurer.old) (part (T.chars text.now) start end) ++ drop (length (part (T.chars text.now) start end)) edges.old }
 {
     let count = end.min(text.len()).saturating_sub(start).min(edges.len());
     let mut before = None;

@@ -46,10 +46,11 @@ impl<M: Measurer, P: Policy> Setter<M, P> {
         ensures kept { style M.meaning P.rules self.new ≡ style M.meaning P.rules self.old }
         ensures lenders { M.lenders self.new.measurer ≡ M.lenders self.old.measurer }
         ensures policy { self.new.policy ≡ self.old.policy }
-        ensures value { result ≡ (laid (M.meaning self.old.measurer) (P.rules self.old.policy) self.old.measure (T.chars text.now)).answer }
-        ensures items { rows.new.rows.items ≡ (laid (M.meaning self.old.measurer) (P.rules self.old.policy) self.old.measure (T.chars text.now)).rows }
+        ensures stays { M.sound self.old.measurer → M.sound self.new.measurer }
+        ensures value { M.sound self.old.measurer → result ≡ (laid (M.meaning self.old.measurer) (P.rules self.old.policy) self.old.measure (T.chars text.now)).answer }
+        ensures items { M.sound self.old.measurer → rows.new.rows.items ≡ (laid (M.meaning self.old.measurer) (P.rules self.old.policy) self.old.measure (T.chars text.now)).rows }
         ensures laws { LayoutLaws (M.meaning self.old.measurer) (P.rules self.old.policy) self.old.measure }
-        ensures counted { self.new.tally ≡ (self.old.tally + broken_for (laid (M.meaning self.old.measurer) (P.rules self.old.policy) self.old.measure (T.chars text.now))) % 2 ^ 64 }
+        ensures counted { M.sound self.old.measurer → self.new.tally ≡ (self.old.tally + broken_for (laid (M.meaning self.old.measurer) (P.rules self.old.policy) self.old.measure (T.chars text.now))) % 2 ^ 64 }
     {
         rows.clear();
         let mut start = 0;

@@ -54,8 +54,9 @@ impl<M: Measurer, P: Policy> Setter<M, P> {
         ensures lenders { M.lenders self.new.measurer ≡ M.lenders self.old.measurer }
         ensures policy { self.new.policy ≡ self.old.policy }
         ensures counted { self.new.tally ≡ self.old.tally }
-        ensures value { MatchResult result (λ l. setting_of (M.meaning self.old.measurer) (P.rules self.old.policy) self.old.measure text.now ≡ Ok l.rows.items) (RefusalOf (setting_of (M.meaning self.old.measurer) (P.rules self.old.policy) self.old.measure text.now)) }
-        ensures first_fit { MatchResult result (λ l. Accepted (M.meaning self.old.measurer) (P.rules self.old.policy) self.old.measure text.now l.rows.items) (RightlyNotSet (M.meaning self.old.measurer) (P.rules self.old.policy) self.old.measure text.now) }
+        ensures stays { M.sound self.old.measurer → M.sound self.new.measurer }
+        ensures value { M.sound self.old.measurer → MatchResult result (λ l. setting_of (M.meaning self.old.measurer) (P.rules self.old.policy) self.old.measure text.now ≡ Ok l.rows.items) (RefusalOf (setting_of (M.meaning self.old.measurer) (P.rules self.old.policy) self.old.measure text.now)) }
+        ensures first_fit { M.sound self.old.measurer → MatchResult result (λ l. Accepted (M.meaning self.old.measurer) (P.rules self.old.policy) self.old.measure text.now l.rows.items) (RightlyNotSet (M.meaning self.old.measurer) (P.rules self.old.policy) self.old.measure text.now) }
     {
         check_cover(&mut self.measurer, text.as_slice())?;
         let mut rows = RowList::new(heap)?;
@@ -78,8 +79,9 @@ pub fn set_text<M: Measurer, P: Policy>(
 ) -> Result<RowList, SetFault>
     ensures same { M.meaning measurer.new ≡ M.meaning measurer.old }
     ensures lenders { M.lenders measurer.new ≡ M.lenders measurer.old }
-    ensures value { MatchResult result (λ l. setting_of (M.meaning measurer.old) (P.rules policy.now) measure text.now ≡ Ok l.rows.items) (RefusalOf (setting_of (M.meaning measurer.old) (P.rules policy.now) measure text.now)) }
-    ensures first_fit { MatchResult result (λ l. Accepted (M.meaning measurer.old) (P.rules policy.now) measure text.now l.rows.items) (RightlyNotSet (M.meaning measurer.old) (P.rules policy.now) measure text.now) }
+    ensures stays { M.sound measurer.old → M.sound measurer.new }
+    ensures value { M.sound measurer.old → MatchResult result (λ l. setting_of (M.meaning measurer.old) (P.rules policy.now) measure text.now ≡ Ok l.rows.items) (RefusalOf (setting_of (M.meaning measurer.old) (P.rules policy.now) measure text.now)) }
+    ensures first_fit { M.sound measurer.old → MatchResult result (λ l. Accepted (M.meaning measurer.old) (P.rules policy.now) measure text.now l.rows.items) (RightlyNotSet (M.meaning measurer.old) (P.rules policy.now) measure text.now) }
 {
     Setter::new(measurer, policy, measure).set_text(heap, text)
 }

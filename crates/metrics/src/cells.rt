@@ -1,5 +1,5 @@
 // Cells: every covered character has the same advance.
-ghost use Rattle.std.specs.Prelude.{◌≡◌, ◌≤◌, MatchResult};
+ghost use Rattle.std.specs.Prelude.{◌≡◌, ◌≤◌, IfOk, MatchResult};
 ghost use Rattle.metrics.specs.Cells.{cells_meaning, CellSizes};
 ghost use Rattle.metrics.specs.Faults.{number};
 ghost use Rattle.std.proofs.Common.{rules, arith};
@@ -17,7 +17,8 @@ pub struct Cells {
 
 impl Cells {
     pub fn new(size: u32) -> Result<Cells, OutOfRange>
-        ensures { MatchResult result (λ cells. CellSizes size × (cells.size ≡ size)) (λ e. (CellSizes size → ⊥) × (e ≡ OutOfRange.CellSize) × (number e ≡ 17)) }
+        ensures value { MatchResult result (λ cells. CellSizes size × (cells.size ≡ size)) (λ e. (CellSizes size → ⊥) × (e ≡ OutOfRange.CellSize) × (number e ≡ 17)) }
+        ensures sound { IfOk result (λ cells. ⟦<Cells as Measurer>⟧.sound cells) }
     {
         match size {
             1..=2_000 => Ok(Cells { size: size as u16 }),

@@ -42,10 +42,11 @@ fn break_until_met<T: Characters, M: Measurer, P: Policy>(
 ) -> Result<usize, LayFault>
     ensures kept { style M.meaning P.rules setter.new ≡ style M.meaning P.rules setter.old }
     ensures lenders { M.lenders setter.new.measurer ≡ M.lenders setter.old.measurer }
+    ensures stays { M.sound setter.old.measurer → M.sound setter.new.measurer }
     ensures policy { setter.new.policy ≡ setter.old.policy }
     ensures within { IfOk result (λ j. j ≤ length old.now) }
     ensures counted { OnOk result ((length rows.old.rows.items ≤ length rows.new.rows.items) × (setter.old.tally < 2 ^ 64 → setter.new.tally ≡ (setter.old.tally + (length rows.new.rows.items - length rows.old.rows.items)) % 2 ^ 64)) }
-    ensures met { (new : List OneRow) → Changed (M.meaning setter.old.measurer) (P.rules setter.old.policy) setter.old.measure (T.chars text.now) edit old.now new → Underway (M.meaning setter.old.measurer) (P.rules setter.old.policy) setter.old.measure (T.chars text.now) edit old.now new rows.old.rows.items start → MatchResult result (λ j. Resumes edit old.now new rows.new.rows.items j) (λ f. (f ≡ TooManyRows) × (most_rows < length new)) }
+    ensures met { M.sound setter.old.measurer → (new : List OneRow) → Changed (M.meaning setter.old.measurer) (P.rules setter.old.policy) setter.old.measure (T.chars text.now) edit old.now new → Underway (M.meaning setter.old.measurer) (P.rules setter.old.policy) setter.old.measure (T.chars text.now) edit old.now new rows.old.rows.items start → MatchResult result (λ j. Resumes edit old.now new rows.new.rows.items j) (λ f. (f ≡ TooManyRows) × (most_rows < length new)) }
 {
     let mut start = start;
     let mut from = 0;
@@ -76,9 +77,10 @@ pub fn relay<T: Characters, M: Measurer, P: Policy>(
 ) -> Result<Repaint, LayFault>
     ensures kept { style M.meaning P.rules setter.new ≡ style M.meaning P.rules setter.old }
     ensures lenders { M.lenders setter.new.measurer ≡ M.lenders setter.old.measurer }
+    ensures stays { M.sound setter.old.measurer → M.sound setter.new.measurer }
     ensures policy { setter.new.policy ≡ setter.old.policy }
     ensures laws { ReflowLaws (M.meaning setter.old.measurer) (P.rules setter.old.policy) setter.old.measure }
-    ensures relaid { Relaid (M.meaning setter.old.measurer) (P.rules setter.old.policy) setter.old.measure (T.chars text.now) edit old.now result rows.new.rows.items setter.old.tally setter.new.tally }
+    ensures relaid { M.sound setter.old.measurer → Relaid (M.meaning setter.old.measurer) (P.rules setter.old.policy) setter.old.measure (T.chars text.now) edit old.now result rows.new.rows.items setter.old.tally setter.new.tally }
 {
     rows.clear();
     let first = first_reaching(old, edit);

@@ -21,7 +21,7 @@ fn settle<M: Measurer, P: Policy>(
     sheet: &mut Sheet<M, P>,
     slip: Slip,
 ) -> Result<Reply, CommandFault>
-    ensures { (k : Making) (h : History) (n : ℕ) → Follows k h (state sheet.old) → Took k h (state sheet.new) (settle_step (clean_after k h)) n (answer_words n result) }
+    ensures { (k : Making) (h : History) (n : ℕ) → Follows k h (state M.meaning M.sound P.rules sheet.old) → Took k h (state M.meaning M.sound P.rules sheet.new) (settle_step (clean_after k h)) n (answer_words n result) }
 {
     let mut record = Repaint::default();
     sheet.settle(slip, &mut record)?;
@@ -39,7 +39,7 @@ pub(crate) fn carry_out<M: Measurer, P: Policy>(
     text: &mut [u8; MAX_CHARACTERS],
     row: &mut [u8; MAX_CHARACTERS],
 ) -> Result<Reply, CommandFault>
-    ensures { (k : Making) (h : History) (n : ℕ) → Follows k h (state sheet.old) → Took k h (state sheet.new) (line_step k (clean_after k h) line.now) n (answer_words n result) }
+    ensures { (k : Making) (h : History) (n : ℕ) → Follows k h (state M.meaning M.sound P.rules sheet.old) → Took k h (state M.meaning M.sound P.rules sheet.new) (line_step k (clean_after k h) line.now) n (answer_words n result) }
 {
     match read_command(line, text)? {
         Command::Replace { at, del, text } => {

@@ -48,7 +48,7 @@ pub fn replay<M: Measurer + Drop, P: Policy + Drop>(
 ) -> Result<(), ReplayFault>
     ensures lender { list.new.buffer.ghost_name ≡ list.old.buffer.ghost_name }
     ensures room { room list.new ≡ room list.old }
-    ensures ran { Replayed (style M.meaning P.rules setter) (room list.old) (written list.old) script.now result (written list.new) }
+    ensures ran { M.sound setter.measurer → Replayed (style M.meaning P.rules setter) (room list.old) (written list.old) script.now result (written list.new) }
 {
     let mut sheet = Sheet::new(heap, setter)?;
     run(script, &mut sheet, list)?;

@@ -31,7 +31,7 @@ fn run_line<M: Measurer, P: Policy>(
     text: &mut [u8; MAX_CHARACTERS],
     row: &mut [u8; MAX_CHARACTERS],
 ) -> Result<Reply, ScriptFault>
-    ensures { (k : Making) (h : History) → Follows k h (state sheet.old) → Took k h (state sheet.new) (line_step k (clean_after k h) line.now) number (outcome_words number result) }
+    ensures { (k : Making) (h : History) → Follows k h (state M.meaning M.sound P.rules sheet.old) → Took k h (state M.meaning M.sound P.rules sheet.new) (line_step k (clean_after k h) line.now) number (outcome_words number result) }
 {
     carry_out(line, sheet, text, row).map_err(|fault| ScriptFault {
         line: number,
@@ -48,7 +48,7 @@ pub fn run<M: Measurer, P: Policy>(
 ) -> Result<(), ListFull>
     ensures lender { list.new.buffer.ghost_name ≡ list.old.buffer.ghost_name }
     ensures room { room list.new ≡ room list.old }
-    ensures ran { (k : Making) (h : History) → Follows k h (state sheet.old) → Ran k h (state sheet.new) (run_script k (room list.old) (written list.old) (clean_after k h) script.now) result (written list.new) }
+    ensures ran { (k : Making) (h : History) → Follows k h (state M.meaning M.sound P.rules sheet.old) → Ran k h (state M.meaning M.sound P.rules sheet.new) (run_script k (room list.old) (written list.old) (clean_after k h) script.now) result (written list.new) }
 {
     if script.len() > MAX_SCRIPT {
         let fault = ScriptFault {

@@ -67,7 +67,7 @@ module _ (k : Making) (h : History) (s : State) (f : Follows k h s) (i : ℕ) wh
   at_screen o e = slice_get-map (shown_of k.meaning (clean_after k h).text) (clean_rows k (clean_after k h)) i ∙ ap (option_map (shown_of k.meaning (clean_after k h).text)) e
 
   lies : (r : Row) → slice_get (clean_rows k (clean_after k h)) i ≡ Some r → Inside (clean_after k h).text r
-  lies r e = inside {k = record { meaning = k.meaning; rules = k.rules; measure = (clean_after k h).measure }} (record { covered = f.covered; first_fit = refl }) i r e
+  lies r e = inside k (clean_after k h) f.covered i r e
 
   roomy : (b : List ℕ) → most_characters ≤ length b → (r : Row) → slice_get (clean_rows k (clean_after k h)) i ≡ Some r → r.end - r.start ≤ length b
   roomy b n r e = omega (arith, (lies r e).within, f.few)

@@ -3,7 +3,7 @@ ghost use Rattle.std.specs.Prelude.{◌≡◌, map, take, drop, IfOk};
 ghost use Rattle.std.specs.List.{slice_get};
 ghost use Rattle.std.specs.Option.{option_map};
 ghost use Rattle.sheet.specs.Clean.{Making};
-ghost use Rattle.sheet.specs.Histories.{Follows, History, clean_after, clean_screen};
+ghost use Rattle.sheet.specs.Histories.{Follows, History, Unchanged, clean_after, clean_screen};
 ghost use Rattle.sheet.specs.States.{state};
 ghost use Rattle.screen.specs.Views.{shown_row};
 
@@ -21,8 +21,8 @@ pub(crate) fn paint_rows<M: Measurer, P: Policy>(
     from: usize,
     put: usize,
 ) -> Result<Vec<ShownRow>, AllocError>
-    ensures same { state sheet.new ≡ state sheet.old }
-    ensures value { (k : Making) (h : History) → Follows k h (state sheet.old) → IfOk result (λ v. map shown_row v.items ≡ take put (drop from (clean_screen k (clean_after k h)))) }
+    ensures same { Unchanged (state M.meaning M.sound P.rules sheet.old) (state M.meaning M.sound P.rules sheet.new) }
+    ensures value { (k : Making) (h : History) → Follows k h (state M.meaning M.sound P.rules sheet.old) → IfOk result (λ v. map shown_row v.items ≡ take put (drop from (clean_screen k (clean_after k h)))) }
 {
     let mut painted = Vec::new(heap);
     'rows: for number in from..from.saturating_add(put) {
@@ -41,8 +41,8 @@ fn paint_row<M: Measurer, P: Policy>(
     sheet: &mut Sheet<M, P>,
     number: usize,
 ) -> Result<Option<ShownRow>, AllocError>
-    ensures same { state sheet.new ≡ state sheet.old }
-    ensures value { (k : Making) (h : History) → Follows k h (state sheet.old) → IfOk result (λ o. option_map shown_row o ≡ slice_get (clean_screen k (clean_after k h)) number) }
+    ensures same { Unchanged (state M.meaning M.sound P.rules sheet.old) (state M.meaning M.sound P.rules sheet.new) }
+    ensures value { (k : Making) (h : History) → Follows k h (state M.meaning M.sound P.rules sheet.old) → IfOk result (λ o. option_map shown_row o ≡ slice_get (clean_screen k (clean_after k h)) number) }
 {
     let mut chars = [0; MAX_CHARACTERS];
     let mut edges = [0; MAX_CHARACTERS];

@@ -3,7 +3,7 @@ ghost use Rattle.std.specs.Prelude.{◌≡◌, ◌∷◌, IfOk, OnErr, OnOk};
 ghost use Rattle.reflow.specs.Screens.{blank, followed};
 ghost use Rattle.sheet.specs.Clean.{Making};
 ghost use Rattle.sheet.specs.Clean.Answer.{settled};
-ghost use Rattle.sheet.specs.Histories.{Event, Follows, History, clean_after, clean_screen, screen_after};
+ghost use Rattle.sheet.specs.Histories.{Event, Follows, History, Unchanged, clean_after, clean_screen, screen_after};
 ghost use Rattle.sheet.specs.States.{state};
 ghost use Rattle.screen.specs.Views.{view};
 
@@ -43,10 +43,10 @@ impl Screen {
         sheet: &mut Sheet<M, P>,
         record: &Repaint,
     ) -> Result<(), AllocError>
-        ensures painted { (k : Making) (h : History) → Follows k h (state sheet.old) → OnOk result (view self.new ≡ followed «record».now (clean_screen k (clean_after k h)) (view self.old)) }
-        ensures shows { (k : Making) (h : History) (e : Event) → e.answer ≡ settled «record».now → Follows k (e ∷ h) (state sheet.old) → view self.old ≡ screen_after k h → OnOk result ((view self.new ≡ screen_after k (e ∷ h)) × (view self.new ≡ clean_screen k (clean_after k (e ∷ h)))) }
+        ensures painted { (k : Making) (h : History) → Follows k h (state M.meaning M.sound P.rules sheet.old) → OnOk result (view self.new ≡ followed «record».now (clean_screen k (clean_after k h)) (view self.old)) }
+        ensures shows { (k : Making) (h : History) (e : Event) → e.answer ≡ settled «record».now → Follows k (e ∷ h) (state M.meaning M.sound P.rules sheet.old) → view self.old ≡ screen_after k h → OnOk result ((view self.new ≡ screen_after k (e ∷ h)) × (view self.new ≡ clean_screen k (clean_after k (e ∷ h)))) }
         ensures kept { OnErr result (view self.new ≡ view self.old) }
-        ensures same { state sheet.new ≡ state sheet.old }
+        ensures same { Unchanged (state M.meaning M.sound P.rules sheet.old) (state M.meaning M.sound P.rules sheet.new) }
     {
         let shown = self.rows.len();
         let (from, removed, put) = if record.whole {

@@ -1,11 +1,12 @@
 -- A sheet that follows a clean one goes on following it.
-use Rattle.std.proofs.Common.{◌≡◌, ℕ, ◌≤◌, List, [], ◌∷◌, ◌++◌, length, Some, None, Option, sym, refl, ap, ◌∙◌, subst, ap₂}
+use Rattle.std.proofs.Common.{◌≡◌, ℕ, ◌≤◌, List, [], ◌∷◌, ◌++◌, length, Some, None, Option, sym, refl, ap, ◌∙◌, subst, ap₂, subst₂}
 use Rattle.page.specs.Texts.{most_characters}
 use Rattle.page.specs.declared.row.Row.{Row}
 use Rattle.layout.specs.Covers.{Covered}
 use Rattle.layout.specs.FirstFit.{RowsFrom}
 use Rattle.layout.specs.Layouts.{most_rows}
 use Rattle.reflow.proofs.AllRows.{all_rows}
+use Rattle.reflow.specs.Edits.{rows_of}
 use Rattle.reflow.specs.Repaints.{repaint_same}
 use Rattle.reflow.specs.Screens.{painted, followed}
 use Rattle.reflow.specs.declared.repaint.Repaint.{Repaint}
@@ -18,6 +19,7 @@ use Rattle.sheet.specs.Histories.{Event, History, State, Follows, Agrees, Agrees
 pub record KeepsUp (k : Making) (n : Clean) (s s' : State) : Type 0 where
   pub meaning : s'.meaning ≡ s.meaning
   pub rules : s'.rules ≡ s.rules
+  pub sound : s.sound → s'.sound
   pub measure : s'.measure ≡ n.measure
   pub text : s'.text ≡ n.text
   pub owed : s'.owed ≡ n.owed
@@ -33,6 +35,7 @@ module _ (k : Making) (h : History) (s s' : State) (call : Call) (answer : Answe
   goes_on f a up shows = record {
     meaning = up.meaning ∙ f.meaning;
     rules = up.rules ∙ f.rules;
+    sound = up.sound f.sound;
     measure = up.measure;
     text = up.text;
     owed = up.owed;
@@ -66,6 +69,7 @@ module _ (k : Making) (h : History) (s s' : State) (call : Call) (answer : Answe
 pub record Owes (s s' : State) (o : Option Repaint) : Type 0 where
   pub meaning : s'.meaning ≡ s.meaning
   pub rules : s'.rules ≡ s.rules
+  pub sound : s.sound → s'.sound
   pub measure : s'.measure ≡ s.measure
   pub text : s'.text ≡ s.text
   pub rows : s'.rows ≡ s.rows
@@ -73,13 +77,24 @@ pub record Owes (s s' : State) (o : Option Repaint) : Type 0 where
 
 -- a sheet owes what it owes
 pub as_it_was : (s : State) → Owes s s s.owed
-as_it_was s = record { meaning = refl; rules = refl; measure = refl; text = refl; rows = refl; owed = refl }
+as_it_was s = record { meaning = refl; rules = refl; sound = λ x. x; measure = refl; text = refl; rows = refl; owed = refl }
+
+-- a sheet's text is covered, and its rows are the text's rows by first fit
+module _ (k : Making) (h : History) (s : State) (f : Follows k h s) where
+  pub own_text : Covered s.meaning s.text
+  own_text = subst₂ Covered (sym f.meaning) (sym f.text) f.covered
+
+  pub own_rows : s.rows ≡ rows_of s.meaning s.rules s.measure s.text
+  own_rows =
+      let same : rows_of s.meaning s.rules s.measure s.text ≡ clean_rows k (clean_after k h) = λ i. rows_of (f.meaning i) (f.rules i) (f.measure i) (f.text i) in
+      f.rows ∙ sym same
 
 module _ (k : Making) (h : History) (s s' : State) (f : Follows k h s) where
   pub keeps_up : (o o' : Option Repaint) → Owes s s' o → o ≡ o' → KeepsUp k (record { text = (clean_after k h).text; measure = (clean_after k h).measure; owed = o' }) s s'
   keeps_up o o' w e = record {
     meaning = w.meaning;
     rules = w.rules;
+    sound = w.sound;
     measure = w.measure ∙ f.measure;
     text = w.text ∙ f.text;
     owed = w.owed ∙ e;
@@ -111,7 +126,7 @@ module _ (k : Making) (h : History) (s s' : State) (f : Follows k h s) where
   pub unsettled_call : s.owed ≡ None → Owes s s' None → Follows k (event settle (refused (7 ∷ [])) s' ∷ h) s'
   unsettled_call o w =
       let is : (clean_after k h).owed ≡ None = sym f.owed ∙ o in
-      refused_call settle (7 ∷ []) (ap (settle_by (clean_after k h)) is) (record { meaning = w.meaning; rules = w.rules; measure = w.measure; text = w.text; rows = w.rows; owed = w.owed ∙ sym o })
+      refused_call settle (7 ∷ []) (ap (settle_by (clean_after k h)) is) (record { meaning = w.meaning; rules = w.rules; sound = w.sound; measure = w.measure; text = w.text; rows = w.rows; owed = w.owed ∙ sym o })
 
 -- what agrees all along agrees at each event
 agrees_at : (k : Making) (later earlier : History) (e : Event) → Agrees k (later ++ (e ∷ earlier)) → AgreesAt k e earlier

@@ -1,8 +1,9 @@
 -- How a clean sheet tells the edges of a row, and that the worked one tells the same.
-use Rattle.std.proofs.Common.{◌≡◌, ℕ, zero, suc, ◌+◌, ◌-◌, ◌<◌, ◌≤◌, leb, List, length, drop, Some, None, Option, Result, sym, refl, ap, ◌∙◌, subst, inl, inr, arith}
+use Rattle.std.proofs.Common.{◌≡◌, ℕ, zero, suc, ◌+◌, ◌-◌, ◌<◌, ◌≤◌, leb, List, length, drop, Some, None, Option, Result, sym, refl, ap, ◌∙◌, subst, subst₂, inl, inr, arith}
 use Rattle.std.proofs.lemmas.Bool.{cases_Bool}
 use Rattle.std.proofs.lemmas.List.{length-take}
 use Rattle.std.specs.List.{slice_get}
+use Rattle.std.specs.Option.{option_map}
 use Rattle.metrics.specs.Meaning.{Meaning}
 use Rattle.page.proofs.Places.{seen_within}
 use Rattle.page.specs.Policies.{Rules}
@@ -12,14 +13,13 @@ use Rattle.layout.specs.Covers.{Covered, AllCovered}
 use Rattle.layout.specs.FirstFit.{RowFrom, RowsFrom}
 use Rattle.layout.specs.FirstFit.RowFrom.{whole, wrapped, cut, single, lone}
 use Rattle.layout.specs.FirstFit.RowsFrom.{end, more}
-use Rattle.layout.specs.Styles.{Style}
+use Rattle.reflow.proofs.AllRows.{all_rows}
 use Rattle.sheet.specs.Clean.{Making, Clean, clean_rows}
 use Rattle.sheet.specs.Edges.{measured, edges_by, edges_step}
 use Rattle.sheet.specs.Faults.{row_answer}
-use Rattle.sheet.specs.Fitting.{fitted}
-use Rattle.sheet.specs.Laid.{Laid}
+use Rattle.sheet.specs.Fitting.{fitted, within}
 use Rattle.sheet.specs.declared.fault.RowFault.{RowFault}
-use Rattle.sheet.proofs.Showing.{in_rows, left}
+use Rattle.sheet.proofs.Showing.{as_clean, left}
 use Rattle.sheet.specs.Histories.{History, State, Follows, clean_after}
 use Rattle.layout.proofs.EdgeSteps.{seen_part}
 
@@ -45,24 +45,22 @@ module _ (m : Meaning) (P : Rules) (w : ℕ) (t : List ℕ) where
   rows_covered v (more {s = s} {r = r} s' f n fs) zero r' e = let is : r ≡ r' = cc in subst (λ (x : Row). AllCovered m (part t x.start x.end)) is (row_covered s r v f)
   rows_covered v (more s' f n fs) (suc i) r' e = rows_covered v fs i r' e
 
--- each row of a laid text is covered
-pub all_covered : {k : Style} {t : List ℕ} {rows : List Row} → Laid k t rows → (i : ℕ) (r : Row) → slice_get rows i ≡ Some r → AllCovered k.meaning (part t r.start r.end)
-all_covered {k = k} {t = t} laid i r e = rows_covered k.meaning k.rules k.measure t laid.covered (in_rows laid) i r e
+-- each row of a sheet is covered
+pub all_covered : (k : Making) (h : History) (s : State) → Follows k h s → (i : ℕ) (r : Row) → slice_get (clean_rows k (clean_after k h)) i ≡ Some r → AllCovered s.meaning (part s.text r.start r.end)
+all_covered k h s f i r e =
+    let c = clean_after k h in
+    subst₂ (λ (m : Meaning) (t : List ℕ). AllCovered m (part t r.start r.end)) (sym f.meaning) (sym f.text)
+    (rows_covered k.meaning k.rules c.measure c.text f.covered (all_rows k.meaning k.rules c.measure c.text f.covered) i r e)
 
 -- how a clean sheet tells edges
 tells : (k : Making) (c : Clean) (b : List ℕ) (o : Option Row) → edges_by k c o b ≡ row_answer (fitted (length b) o) (left (measured k.meaning c.text) (fitted (length b) o) b)
 tells k c b None = refl
 tells k c b (Some r) = elim (cases_Bool (leb (r.end - r.start) (length b))) [ inl t ↦ cc t | inr t ↦ cc t ]
 
--- a sheet whose measurer means what it meant is in the same state
-pub remeant : {m : Meaning} (s : State) → m ≡ s.meaning → record s { meaning = m } ≡ s
-remeant s e = λ i. record s { meaning = e i }
-
-pub told_edges : (k : Making) (h : History) (s : State) → Follows k h s → (i : ℕ) (b : List ℕ) (x : Result Row RowFault) → x ≡ fitted (length b) (slice_get s.rows i)
+pub told_edges : (k : Making) (h : History) (s : State) → Follows k h s → (i : ℕ) (b : List ℕ) (x : Result Row RowFault) → x ≡ fitted (length b) (option_map (within (length s.text)) (slice_get s.rows i))
     → (b' : List ℕ) → b' ≡ left (measured s.meaning s.text) x b → row_answer x b' ≡ edges_step k (clean_after k h) i b
 told_edges k h s f i b x found b' is =
     let c = clean_after k h in
-    let found' : x ≡ fitted (length b) (slice_get (clean_rows k c) i) = found ∙ ap (λ (rs : List Row). fitted (length b) (slice_get rs i)) f.rows in
     ap (row_answer x) (is ∙ (λ j. left (measured (f.meaning j) (f.text j)) x b))
-    ∙ ap (λ (y : Result Row RowFault). row_answer y (left (measured k.meaning c.text) y b)) found'
+    ∙ ap (λ (y : Result Row RowFault). row_answer y (left (measured k.meaning c.text) y b)) (found ∙ as_clean k h s f i (length b))
     ∙ sym (tells k c b (slice_get (clean_rows k c) i))

@@ -4,4 +4,4 @@ pub mod Remeasuring
 pub mod Showing
 pub mod Edging
 pub mod Settled
-pub mod Alike
+pub mod Unchanging

@@ -23,10 +23,10 @@ use Rattle.sheet.proofs.Replacing.{some_owed}
 
 -- a layout that was not refused has all rows
 module _ (m : Meaning) (P : Rules) (w : ℕ) (t : List ℕ) (v : Covered m t) where
-  pub laid_all : (laid m P w t).answer ≡ Ok tt → (laid m P w t).rows ≡ rows_of m P w t
+  laid_all : (laid m P w t).answer ≡ Ok tt → (laid m P w t).rows ≡ rows_of m P w t
   laid_all e = (layout_laws m P w).only_one t 0 (laid m P w t).rows (rows_of m P w t) ((layout_laws m P w).are_first_fit t most_rows 0 (omega arith) e) (all_rows m P w t v)
 
-  pub all_few : (laid m P w t).answer ≡ Ok tt → length (rows_of m P w t) ≤ most_rows
+  all_few : (laid m P w t).answer ≡ Ok tt → length (rows_of m P w t) ≤ most_rows
   all_few e = subst (λ (rs : List Row). length rs ≤ most_rows) (laid_all e) (laid_few m P w t most_rows 0)
 
   -- and one that was refused has too many
@@ -52,6 +52,7 @@ module _ (k : Making) (c : Clean) (w : ℕ) where
 pub record Relays (s s' : State) (w : ℕ) (p : Repaint) : Type 0 where
   pub meaning : s'.meaning ≡ s.meaning
   pub rules : s'.rules ≡ s.rules
+  pub sound : s.sound → s'.sound
   pub measure : s'.measure ≡ w
   pub text : s'.text ≡ s.text
   pub rows : s'.rows ≡ rows_of s.meaning s.rules w s.text
@@ -73,6 +74,7 @@ module _ (k : Making) (h : History) (s s' : State) (f : Follows k h s) (w : ℕ)
       (record {
         meaning = l.meaning;
         rules = l.rules;
+        sound = l.sound;
         measure = l.measure;
         text = l.text ∙ f.text;
         owed = l.owed ∙ ap Some (l.painted ∙ ap₂ (λ (a b : List Row). repaint_all (length a) (length b)) f.rows same_rows);
@@ -93,14 +95,30 @@ module _ (k : Making) (h : History) (s s' : State) (f : Follows k h s) (w : ℕ)
   refused_many none many o =
       refused_call k h s s' f (remeasure w) (5 ∷ []) (too_many k (clean_after k h) w (sym f.owed ∙ none) (subst (λ (rs : List Row). most_rows < length rs) same_rows many)) o
 
-pub laid_right : (a : Result (Unit {0}) LayFault) → is_err a ≡ false → a ≡ Ok tt
+laid_right : (a : Result (Unit {0}) LayFault) → is_err a ≡ false → a ≡ Ok tt
 laid_right (Ok x) e = refl
 laid_right (Err f) e = cc
 
 -- as many rows were broken as there are
-pub broken_all : (m : Meaning) (P : Rules) (w : ℕ) (t : List ℕ) → Covered m t → (laid m P w t).answer ≡ Ok tt → broken_for (laid m P w t) ≡ length (rows_of m P w t)
+broken_all : (m : Meaning) (P : Rules) (w : ℕ) (t : List ℕ) → Covered m t → (laid m P w t).answer ≡ Ok tt → broken_for (laid m P w t) ≡ length (rows_of m P w t)
 broken_all m P w t v e = ap₂ (λ (rs : List Row) (a : Result (Unit {0}) LayFault). length rs + missed a) (laid_all m P w t v e) e ∙ add-zero (length (rows_of m P w t))
 
 -- what a tally grew by
-pub grown : (e a n : ℕ) → e < 2 ^ 64 → n ≤ 1024 → a ≡ (e + n) % 2 ^ 64 → (a + (2 ^ 64 - e)) % 2 ^ 64 ≡ n
+grown : (e a n : ℕ) → e < 2 ^ 64 → n ≤ 1024 → a ≡ (e + n) % 2 ^ 64 → (a + (2 ^ 64 - e)) % 2 ^ 64 ≡ n
 grown e a n h few is = omega arith
+
+-- all rows of a text are in the list, and the tally counts them
+pub record AllLaid (m : Meaning) (P : Rules) (w : ℕ) (t : List ℕ) (rows : List Row) (before after : ℕ) : Type 0 where
+  pub items : rows ≡ rows_of m P w t
+  pub few : length (rows_of m P w t) ≤ most_rows
+  pub counted : after ≡ (before + length (rows_of m P w t)) % 2 ^ 64
+  pub broken : (after + (2 ^ 64 - before)) % 2 ^ 64 ≡ length (rows_of m P w t)
+
+-- and so it is after a layout that was not refused
+pub laid_whole : (m : Meaning) (P : Rules) (w : ℕ) (t : List ℕ) → Covered m t → (a : Result (Unit {0}) LayFault) (rows : List Row) (before after : ℕ) → before < 2 ^ 64
+    → is_err a ≡ false → a ≡ (laid m P w t).answer → rows ≡ (laid m P w t).rows → after ≡ (before + broken_for (laid m P w t)) % 2 ^ 64 → AllLaid m P w t rows before after
+laid_whole m P w t v a rows before after fits right is items counted =
+    let ok : (laid m P w t).answer ≡ Ok tt = sym is ∙ laid_right a right in
+    let few = all_few m P w t v ok in
+    let told : after ≡ (before + length (rows_of m P w t)) % 2 ^ 64 = counted ∙ ap (λ (n : ℕ). (before + n) % 2 ^ 64) (broken_all m P w t v ok) in
+    record { items = items ∙ laid_all m P w t v ok; few = few; counted = told; broken = grown before after (length (rows_of m P w t)) fits few told }

@@ -65,14 +65,26 @@ due None sheet screen = screen
 due (Some p) sheet screen = followed p sheet screen
 
 -- what a worked sheet is; the tally is how many rows it broke, modulo 2^64
-pub record State : Type 0 where
+pub record State : Type 1 where
   pub meaning : Meaning
   pub rules : Rules
+  pub sound : Type 0
   pub measure : ℕ
   pub text : List ℕ
   pub rows : List Row
   pub owed : Option Repaint
   pub tally : ℕ
+
+-- nothing of it is another, and it is as sound as it was
+pub record Unchanged (s s' : State) : Type 0 where
+  pub meaning : s'.meaning ≡ s.meaning
+  pub rules : s'.rules ≡ s.rules
+  pub sound : s.sound → s'.sound
+  pub measure : s'.measure ≡ s.measure
+  pub text : s'.text ≡ s.text
+  pub rows : s'.rows ≡ s.rows
+  pub owed : s'.owed ≡ s.owed
+  pub tally : s'.tally ≡ s.tally
 
 -- the tally counts the rows that the owed record says were broken
 abbrev pub Counted : State → State → Type 0
@@ -82,6 +94,7 @@ Counted s s' = (p : Repaint) → s'.owed ≡ Some p → s'.tally ≡ (s.tally + 
 pub record Follows (k : Making) (h : History) (s : State) : Type 0 where
   pub meaning : s.meaning ≡ k.meaning
   pub rules : s.rules ≡ k.rules
+  pub sound : s.sound
   pub measure : s.measure ≡ (clean_after k h).measure
   pub text : s.text ≡ (clean_after k h).text
   pub owed : s.owed ≡ (clean_after k h).owed

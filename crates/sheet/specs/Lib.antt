@@ -4,5 +4,4 @@ pub mod Edges
 pub mod Faults
 pub mod Fitting
 pub mod Histories
-pub mod Laid
 pub mod States

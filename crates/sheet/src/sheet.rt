@@ -1,13 +1,7 @@
 // The sheet.
-ghost use Rattle.buffer.specs.Held.{held};
-ghost use Rattle.layout.specs.Styles.{style};
-ghost use Rattle.sheet.specs.Laid.{Laid};
-
 use buffer::gap_buffer::GapBuffer;
 use layout::row_list::RowList;
 use layout::setter::Setter;
-use metrics::measurer::Measurer;
-use page::policy::Policy;
 use reflow::repaint::Repaint;
 
 mod calls;
@@ -17,15 +11,15 @@ mod making;
 
 // A text set at a measure, with its rows. A change is laid into `spare` and swapped in once it is
 // accepted, so that a refusal has nothing to undo. Clauses see its `state`. No `impl Model`: the value
-// would hold what the measurer means, which is a function, and a function has no code.
+// would hold what the measurer means, which is a function, and a function has no code; nor a ghost field
+// that its rows are laid, since that would ask whoever names the type for the bounds.
 #[derive(Drop)]
-pub struct Sheet<M: Measurer, P: Policy> {
+pub struct Sheet<M, P> {
     setter: Setter<M, P>,
     text: GapBuffer,
     rows: RowList,
     spare: RowList,
     owed: Option<Repaint>,
-    ghost laid: { Laid (style M.meaning P.rules setter) (held text) rows.rows.items },
 }
 
 // A debt of one repaint. Whoever has one must settle it: it cannot be let go, nor settled twice.

@@ -28,7 +28,7 @@ pub fn press<M: Measurer, P: Policy>(
     screen: &mut Screen,
     c: u8,
 ) -> Result<u64, KeyFault>
-    ensures { (k : Making) (h : History) → Follows k h (state sheet.old) → view screen.old ≡ screen_after k h → Key k h c result (state sheet.new) (view screen.new) }
+    ensures { (k : Making) (h : History) → Follows k h (state M.meaning M.sound P.rules sheet.old) → view screen.old ≡ screen_after k h → Key k h c result (state M.meaning M.sound P.rules sheet.new) (view screen.new) }
 {
     let at = sheet.char_count();
     let slip = sheet.replace(at, 0, &[c])?;
@@ -44,7 +44,7 @@ pub fn type_text<M: Measurer, P: Policy>(
     screen: &mut Screen,
     text: &[u8],
 ) -> Result<Effort, Stopped>
-    ensures { (k : Making) (h : History) → Follows k h (state sheet.old) → view screen.old ≡ screen_after k h → Keys k h text.now result (state sheet.new) (view screen.new) }
+    ensures { (k : Making) (h : History) → Follows k h (state M.meaning M.sound P.rules sheet.old) → view screen.old ≡ screen_after k h → Keys k h text.now result (state M.meaning M.sound P.rules sheet.new) (view screen.new) }
 {
     let mut effort = Effort::default();
     'keys: for (place, c) in text.iter().enumerate() {

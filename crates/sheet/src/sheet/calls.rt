@@ -1,12 +1,14 @@
 // Repainting, settling, and what a sheet shows.
 ghost use Rattle.std.specs.Prelude.{◌≡◌, ◌≤◌, length, IfOk, OnErr};
 ghost use Rattle.std.specs.List.{slice_get};
+ghost use Rattle.std.specs.Option.{option_map};
+ghost use Rattle.buffer.specs.Held.{held};
 ghost use Rattle.layout.specs.Layouts.{most_rows};
 ghost use Rattle.page.specs.Texts.{most_characters};
 ghost use Rattle.sheet.specs.Clean.Answer.{accepted};
 ghost use Rattle.sheet.specs.Clean.Call.{refresh, settle, row};
 ghost use Rattle.sheet.specs.Faults.{settle_answer, row_answer};
-ghost use Rattle.sheet.specs.Fitting.{fitted};
+ghost use Rattle.sheet.specs.Fitting.{fitted, within};
 ghost use Rattle.sheet.specs.Histories.{Continues};
 ghost use Rattle.sheet.specs.States.{state};
 
@@ -21,8 +23,8 @@ use reflow::repaint::Repaint;
 impl<M: Measurer, P: Policy> Sheet<M, P> {
     // Has all rows painted again. It is never refused; its record takes the place of one that is owed.
     pub fn refresh(&mut self) -> Slip
-        ensures follows { Continues (state self.old) refresh accepted (state self.new) }
-        ensures counted { (state self.new).tally ≡ (state self.old).tally }
+        ensures follows { Continues (state M.meaning M.sound P.rules self.old) refresh accepted (state M.meaning M.sound P.rules self.new) }
+        ensures counted { (state M.meaning M.sound P.rules self.new).tally ≡ (state M.meaning M.sound P.rules self.old).tally }
     {
         let rows = self.rows.len();
         self.owed = Some(Repaint {
@@ -37,8 +39,8 @@ impl<M: Measurer, P: Policy> Sheet<M, P> {
 
     // Spends the slip of any sheet, and fills `record` with what is owed here.
     pub fn settle(&mut self, slip: Slip, record: &mut Repaint) -> Result<(), NothingOwed>
-        ensures follows { Continues (state self.old) settle (settle_answer result «record».new) (state self.new) }
-        ensures counted { (state self.new).tally ≡ (state self.old).tally }
+        ensures follows { Continues (state M.meaning M.sound P.rules self.old) settle (settle_answer result «record».new) (state M.meaning M.sound P.rules self.new) }
+        ensures counted { (state M.meaning M.sound P.rules self.new).tally ≡ (state M.meaning M.sound P.rules self.old).tally }
         ensures kept { OnErr result («record».new ≡ «record».old) }
     {
         let Slip { owes: () } = slip;
@@ -47,21 +49,23 @@ impl<M: Measurer, P: Policy> Sheet<M, P> {
         Ok(())
     }
 
-    // The row of that number, if `room` characters can hold it.
+    // The row of that number, if `room` characters can hold it; within the text, whatever the rows are.
     pub(super) fn fitting_row(&self, number: usize, room: usize) -> Result<Row, RowFault>
-        ensures value { result ≡ fitted room (slice_get (state self.now).rows number) }
-        ensures inside { IfOk result (λ r. (r.start ≤ r.end) × (r.end ≤ length (state self.now).text)) }
+        ensures value { result ≡ fitted room (option_map (within (length (held self.now.text))) (slice_get self.now.rows.rows.items number)) }
+        ensures inside { IfOk result (λ r. (r.start ≤ r.end) × (r.end ≤ length (held self.now.text))) }
     {
         let row = *self.rows.as_slice().get(number).ok_or(RowFault::NoSuchRow)?;
-        if row.end - row.start > room {
+        let end = row.end.min(self.text.len());
+        let start = row.start.min(end);
+        if end - start > room {
             return Err(RowFault::ShortBuffer);
         }
-        Ok(row)
+        Ok(Row { start, end, ..row })
     }
 
     // Copies the characters of a row to the front of `buffer`, and answers the row's record.
     pub fn row(&self, number: usize, buffer: &mut [u8]) -> Result<Row, RowFault>
-        ensures follows { Continues (state self.now) (row number buffer.old) (row_answer result buffer.new) (state self.now) }
+        ensures follows { Continues (state M.meaning M.sound P.rules self.now) (row number buffer.old) (row_answer result buffer.new) (state M.meaning M.sound P.rules self.now) }
         ensures kept { OnErr result (buffer.new ≡ buffer.old) }
     {
         let row = self.fitting_row(number, buffer.len())?;
@@ -71,23 +75,24 @@ impl<M: Measurer, P: Policy> Sheet<M, P> {
 
     // How many rows there are.
     pub fn row_count(&self) -> usize
-        ensures value { result ≡ length (state self.now).rows }
-        ensures few { length (state self.now).rows ≤ most_rows }
+        ensures value { result ≡ length (state M.meaning M.sound P.rules self.now).rows }
+        ensures few { length (state M.meaning M.sound P.rules self.now).rows ≤ most_rows }
     {
         self.rows.len()
     }
 
     // How many characters there are.
     pub fn char_count(&self) -> usize
-        ensures value { result ≡ length (state self.now).text }
-        ensures few { length (state self.now).text ≤ most_characters }
+        ensures value { result ≡ length (state M.meaning M.sound P.rules self.now).text }
+        ensures few { length (state M.meaning M.sound P.rules self.now).text ≤ most_characters }
     {
         self.text.len()
     }
 
-    // How many rows were broken since the setter of the sheet was made, modulo 2^64.
+    // The tally of the sheet's setter: what it was when the sheet was made, and one for each row broken
+    // since, modulo 2^64.
     pub fn tally(&self) -> u64
-        ensures { result ≡ (state self.now).tally }
+        ensures { result ≡ (state M.meaning M.sound P.rules self.now).tally }
     {
         self.setter.tally
     }

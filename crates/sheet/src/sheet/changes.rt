@@ -1,8 +1,9 @@
 // The calls that change a sheet.
 ghost use Rattle.std.specs.Prelude.{◌≡◌, IfErr, OnOk};
+ghost use Rattle.sheet.specs.Clean.{Making};
 ghost use Rattle.sheet.specs.Clean.Call.{replace, remeasure};
 ghost use Rattle.sheet.specs.Faults.{replace_answer, remeasure_answer, Early, EarlyMeasure};
-ghost use Rattle.sheet.specs.Histories.{Continues, Counted};
+ghost use Rattle.sheet.specs.Histories.{Continues, Counted, Follows, History};
 ghost use Rattle.sheet.specs.States.{state};
 
 use super::{Sheet, Slip};
@@ -22,8 +23,8 @@ impl<M: Measurer, P: Policy> Sheet<M, P> {
     // Puts `ins` in place of the `del` characters at `at`. The text is laid as it would read, so that
     // a refusal has nothing to undo.
     pub fn replace(&mut self, at: usize, del: usize, ins: &[u8]) -> Result<Slip, ReplaceFault>
-        ensures follows { Continues (state self.old) (replace at del ins.now) (replace_answer result) (state self.new) }
-        ensures counted { OnOk result (Counted (state self.old) (state self.new)) }
+        ensures follows { Continues (state M.meaning M.sound P.rules self.old) (replace at del ins.now) (replace_answer result) (state M.meaning M.sound P.rules self.new) }
+        ensures counted { (k : Making) (h : History) → Follows k h (state M.meaning M.sound P.rules self.old) → OnOk result (Counted (state M.meaning M.sound P.rules self.old) (state M.meaning M.sound P.rules self.new)) }
         ensures early { IfErr result (λ e. Early e → self.new ≡ self.old) }
     {
         if self.owed.is_some() {
@@ -58,8 +59,8 @@ impl<M: Measurer, P: Policy> Sheet<M, P> {
 
     // Sets the measure, and lays the whole text again.
     pub fn remeasure(&mut self, measure: Measure) -> Result<Slip, RemeasureFault>
-        ensures follows { Continues (state self.old) (remeasure measure) (remeasure_answer result) (state self.new) }
-        ensures counted { OnOk result (Counted (state self.old) (state self.new)) }
+        ensures follows { Continues (state M.meaning M.sound P.rules self.old) (remeasure measure) (remeasure_answer result) (state M.meaning M.sound P.rules self.new) }
+        ensures counted { (k : Making) (h : History) → Follows k h (state M.meaning M.sound P.rules self.old) → OnOk result (Counted (state M.meaning M.sound P.rules self.old) (state M.meaning M.sound P.rules self.new)) }
         ensures early { IfErr result (λ e. EarlyMeasure e → self.new ≡ self.old) }
     {
         if self.owed.is_some() {

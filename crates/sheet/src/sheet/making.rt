@@ -18,8 +18,8 @@ use std::alloc::{AllocError, Global};
 impl<M: Measurer + Drop, P: Policy + Drop> Sheet<M, P> {
     // A sheet with no text, which has one empty row.
     pub fn new(heap: Global, setter: Setter<M, P>) -> Result<Sheet<M, P>, AllocError>
-        ensures follows { IfOk result (λ s. Follows (style M.meaning P.rules setter) [] (state s)) }
-        ensures counted { IfOk result (λ s. (state s).tally ≡ setter.tally) }
+        ensures follows { IfOk result (λ s. M.sound setter.measurer → Follows (style M.meaning P.rules setter) [] (state M.meaning M.sound P.rules s)) }
+        ensures counted { IfOk result (λ s. (state M.meaning M.sound P.rules s).tally ≡ setter.tally) }
     {
         let text = GapBuffer::new(heap)?;
         let rows = one_empty_row(heap)?;

@@ -24,13 +24,14 @@ turn-preserved g c =
     let is : ch ≡ get_or t at 0 = c.unwrap_or-c.ensures ∙ ap (λ (o : Option ℕ). or_zero o 0) (c.get.ensures ∙ found) in
     let there : seen cs i ≡ Some ch = seen_part t c.args.start c.args.end i (omega arith) ∙ found ∙ ap Some (sym is) in (
       c.advance.ensures.same ∙ inv.0,
+      (λ s. c.advance.ensures.stays (inv.1 s)),
       omega arith,
-      rest_more c.turn.edges c.args.edges.now i _ inv.2,
-      c.advance.ensures.lenders ∙ inv.3,
-      (λ v.
-          let told : c.advance.result ≡ answer m c.turn.before ch = c.advance.ensures.value ∙ ap (λ (x : Meaning). answer x c.turn.before ch) inv.0 in
+      rest_more c.turn.edges c.args.edges.now i _ inv.3,
+      c.advance.ensures.lenders ∙ inv.4,
+      (λ s v.
+          let told : c.advance.result ≡ answer m c.turn.before ch = c.advance.ensures.value (inv.1 s) ∙ ap (λ (x : Meaning). answer x c.turn.before ch) inv.0 in
           let adv : c.from-edge.result ≡ m.adv c.turn.before ch = c.from-edge.ensures ∙ c.unwrap_or.ensures ∙ ap (λ (r : Result ℕ MissingGlyph). result_unwrap_or r 0) told ∙ advance_given m c.turn.before ch (v i ch there) in
-          edge_more m cs c.turn.edges i ch c.turn.edge c.from-edge.result c.turn.before (omega arith) there adv (inv.4 v)),
+          edge_more m cs c.turn.edges i ch c.turn.edge c.from-edge.result c.turn.before (omega arith) there adv (inv.5 s v)),
     )
 
 pub returns : goal.returns
@@ -43,8 +44,9 @@ returns g c =
     let long : length cs ≡ min (c.args.end - c.args.start) (length t - c.args.start) = length-take (c.args.end - c.args.start) (drop c.args.start t) ∙ ap (min (c.args.end - c.args.start)) (length-drop c.args.start t) in
     record {
       same = inv.0;
-      lenders = inv.3;
-      value = λ v room.
+      lenders = inv.4;
+      stays = inv.1;
+      value = λ s v room.
           let all : i ≡ length cs = omega (arith, long, room, c.len.ensures.value) in
-          edges_all m cs c.turn.edges c.args.edges.now i c.turn.edge c.turn.before (omega arith) inv.2 (inv.4 v) ∙ ap (λ (n : ℕ). edges m cs ++ drop n c.args.edges.now) all;
+          edges_all m cs c.turn.edges c.args.edges.now i c.turn.edge c.turn.before (omega arith) inv.3 (inv.5 s v) ∙ ap (λ (n : ℕ). edges m cs ++ drop n c.args.edges.now) all;
     }

@@ -20,10 +20,11 @@ returns-in-Ok g c =
     record {
       kept = inv.0;
       lenders = inv.6;
+      stays = inv.7;
       policy = inv.5;
       within = omega (arith, met.among);
       counted = (inv.1, inv.2);
-      met = λ new ch u. resumes_at k.meaning k.rules k.measure t c.args.edit c.args.old.now new c.rows.rows.rows.items c.rows.start (inv.3 new ch u) ch c.in-Ok.met met;
+      met = λ sound new ch u. resumes_at k.meaning k.rules k.measure t c.args.edit c.args.old.now new c.rows.rows.rows.items c.rows.start (inv.3 sound new ch u) ch c.in-Ok.met met;
     }
 
 pub returns-in_err-row : goal.returns-in_err-row
@@ -37,10 +38,11 @@ returns-in_err-row g c =
     record {
       kept = told.kept ∙ inv.0;
       lenders = told.lenders ∙ inv.6;
+      stays = λ sound. told.stays (inv.7 sound);
       policy = told.policy ∙ inv.5;
       within = rw p.1 tt;
       counted = rw p.1 tt;
-      met = λ new ch u. absurd (never_missing k k' t (min c.rows.start (length t)) c.in_err-row.field-0.0 inv.0 ch.covers told.value);
+      met = λ sound new ch u. absurd (never_missing k k' t (min c.rows.start (length t)) c.in_err-row.field-0.0 inv.0 ch.covers (told.value (inv.7 sound)));
     }
 
 pub returns-in_default : goal.returns-in_default
@@ -62,13 +64,14 @@ returns-in_default g c =
     record {
       kept = told.kept ∙ inv.0;
       lenders = told.lenders ∙ inv.6;
+      stays = λ sound. told.stays (inv.7 sound);
       policy = told.policy ∙ inv.5;
       within = omega arith;
       counted = (omega arith, (λ f. counted_on c.args.setter.now.tally c.rows.setter.tally _ (length done - length first) (length more - length first) (inv.2 f) told.counted (omega arith)));
-      met = λ new ch u.
-          let so_far = inv.3 new ch u in
-          let unmet = c.in-Err.ensures ch.laws.ascend (inv.4 new ch u) in
-          let x : RowFrom k.meaning k.rules k.measure t start r = broken_at k k' t start r inv.0 (starts_within k.meaning k.rules k.measure t e old new done start so_far) told.first_fit in
+      met = λ sound new ch u.
+          let so_far = inv.3 sound new ch u in
+          let unmet = c.in-Err.ensures ch.laws.ascend (inv.4 sound new ch u) in
+          let x : RowFrom k.meaning k.rules k.measure t start r = broken_at k k' t start r inv.0 (starts_within k.meaning k.rules k.measure t e old new done start so_far) (told.first_fit (inv.7 sound)) in
           let at = placed k.meaning k.rules k.measure t start r x in
           let few = told.few in
           let last : following r ≡ None = sym (c.in_default.ensures (omega (arith, at.ends))) in
@@ -100,24 +103,25 @@ rows-preserved g c =
       told.kept ∙ inv.0,
       omega arith,
       (λ f. counted_on c.args.setter.now.tally c.rows.setter.tally _ (length done - length first) (length more - length first) (inv.2 f) told.counted (omega arith)),
-      (λ new ch u.
-          let so_far = inv.3 new ch u in
-          let unmet = c.in-Err.ensures ch.laws.ascend (inv.4 new ch u) in
-          let x : RowFrom k.meaning k.rules k.measure t start r = broken_at k k' t start r inv.0 (starts_within k.meaning k.rules k.measure t e old new done start so_far) told.first_fit in
+      (λ sound new ch u.
+          let so_far = inv.3 sound new ch u in
+          let unmet = c.in-Err.ensures ch.laws.ascend (inv.4 sound new ch u) in
+          let x : RowFrom k.meaning k.rules k.measure t start r = broken_at k k' t start r inv.0 (starts_within k.meaning k.rules k.measure t e old new done start so_far) (told.first_fit (inv.7 sound)) in
           let at = placed k.meaning k.rules k.measure t start r x in
           let few = told.few in
           let next : following r ≡ Some s' = sym (c.in-Some.ensures (omega (arith, at.ends))) in
           rw pushed (goes_on k.meaning k.rules k.measure t e old new done start so_far r s' x (unmet.meets_none r at.starts) next)),
-      (λ new ch u.
-          let so_far = inv.3 new ch u in
-          let unmet = c.in-Err.ensures ch.laws.ascend (inv.4 new ch u) in
-          let x : RowFrom k.meaning k.rules k.measure t start r = broken_at k k' t start r inv.0 (starts_within k.meaning k.rules k.measure t e old new done start so_far) told.first_fit in
+      (λ sound new ch u.
+          let so_far = inv.3 sound new ch u in
+          let unmet = c.in-Err.ensures ch.laws.ascend (inv.4 sound new ch u) in
+          let x : RowFrom k.meaning k.rules k.measure t start r = broken_at k k' t start r inv.0 (starts_within k.meaning k.rules k.measure t e old new done start so_far) (told.first_fit (inv.7 sound)) in
           let at = placed k.meaning k.rules k.measure t start r x in
           let few = told.few in
           let next : following r ≡ Some s' = sym (c.in-Some.ensures (omega (arith, at.ends))) in
           before_later old c.in-Err.next (start - e.ins + e.del) (s' - e.ins + e.del) (omega (arith, (at.on s' next).0)) unmet.passed),
       told.policy ∙ inv.5,
       told.lenders ∙ inv.6,
+      (λ sound. told.stays (inv.7 sound)),
     )
 
 pub returns : goal.returns
@@ -130,8 +134,9 @@ returns g c =
     record {
       kept = inv.0;
       lenders = inv.6;
+      stays = inv.7;
       policy = inv.5;
       within = tt;
       counted = tt;
-      met = λ new ch u. (refl, omega (arith, longer k.meaning k.rules k.measure t c.args.edit c.args.old.now new done c.rows.start (inv.3 new ch u)));
+      met = λ sound new ch u. (refl, omega (arith, longer k.meaning k.rules k.measure t c.args.edit c.args.old.now new done c.rows.start (inv.3 sound new ch u)));
     }

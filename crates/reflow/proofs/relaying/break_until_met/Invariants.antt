@@ -16,12 +16,13 @@ invariant-rows g l =
     (style g.M.Measurer.meaning g.P.Policy.rules l.setter ≡ k)
     × (length first ≤ length done)
     × (l.initial.setter.tally < 2 ^ 64 → l.setter.tally ≡ (l.initial.setter.tally + (length done - length first)) % 2 ^ 64)
-    × ((new : List Row) → Changed k.meaning k.rules k.measure t l.edit l.old new → Underway k.meaning k.rules k.measure t l.edit l.old new first l.initial.start
+    × (g.M.Measurer.sound l.initial.setter.measurer → (new : List Row) → Changed k.meaning k.rules k.measure t l.edit l.old new → Underway k.meaning k.rules k.measure t l.edit l.old new first l.initial.start
     → Underway k.meaning k.rules k.measure t l.edit l.old new done l.start)
-    × ((new : List Row) → Changed k.meaning k.rules k.measure t l.edit l.old new → Underway k.meaning k.rules k.measure t l.edit l.old new first l.initial.start
+    × (g.M.Measurer.sound l.initial.setter.measurer → (new : List Row) → Changed k.meaning k.rules k.measure t l.edit l.old new → Underway k.meaning k.rules k.measure t l.edit l.old new first l.initial.start
     → Before l.old l.from (l.start - l.edit.ins + l.edit.del))
     × (l.setter.policy ≡ l.initial.setter.policy)
     × (g.M.Measurer.lenders l.setter.measurer ≡ g.M.Measurer.lenders l.initial.setter.measurer)
+    × (g.M.Measurer.sound l.initial.setter.measurer → g.M.Measurer.sound l.setter.measurer)
 
 abbrev pub decreases-rows : goal.decreases-rows
 decreases-rows g l = most_rows - length l.rows.rows.items

@@ -33,9 +33,10 @@ returns-in_err-carry g c =
     record {
       kept = refl;
       lenders = refl;
+      stays = λ sound. sound;
       policy = refl;
       laws = reflow_laws k.meaning k.rules k.measure;
-      relaid = λ before ins q ed o.
+      relaid = λ sound before ins q ed o.
           let b = begun k.meaning k.rules k.measure before ins c.args.edit ed t old q o in
           rw p.1 (p.2, omega (arith, b.long, c.first_reaching-first.ensures, length-take n old));
     }
@@ -53,12 +54,13 @@ returns-in_err-resumed g c =
     record {
       kept = told.kept;
       lenders = told.lenders;
+      stays = told.stays;
       policy = told.policy;
       laws = reflow_laws k.meaning k.rules k.measure;
-      relaid = λ before ins q ed o.
+      relaid = λ sound before ins q ed o.
           let b = begun k.meaning k.rules k.measure before ins e ed t old q o in
           let u = under_way k.meaning k.rules k.measure t e old b n c.restart-start.result c.carry.new.rows.rows.items c.first_reaching-first.ensures carried c.restart-start.ensures.value in
-          let x = told.met (rows_of k.meaning k.rules k.measure t) b.changed u in
+          let x = told.met sound (rows_of k.meaning k.rules k.measure t) b.changed u in
           rw p.1 (p.2 ∙ x.0, x.1);
     }
 
@@ -79,12 +81,13 @@ returns-in_err-resume g c =
     record {
       kept = laid.kept;
       lenders = laid.lenders;
+      stays = laid.stays;
       policy = laid.policy;
       laws = reflow_laws k.meaning k.rules k.measure;
-      relaid = λ before ins q ed o.
+      relaid = λ sound before ins q ed o.
           let b = begun k.meaning k.rules k.measure before ins e ed t old q o in
           let u = under_way k.meaning k.rules k.measure t e old b n c.restart-start.result c.carry.new.rows.rows.items c.first_reaching-first.ensures carried c.restart-start.ensures.value in
-          let x = laid.met (rows_of k.meaning k.rules k.measure t) b.changed u in
+          let x = laid.met sound (rows_of k.meaning k.rules k.measure t) b.changed u in
           rw p.1 (p.2, omega (arith, ap length x.joins, length-append done (map f (drop j old)), length-map (drop j old) f, ap length (take_rest old j)));
     }
 
@@ -107,13 +110,14 @@ returns g c =
     record {
       kept = laid.kept;
       lenders = laid.lenders;
+      stays = laid.stays;
       policy = laid.policy;
       laws = reflow_laws k.meaning k.rules k.measure;
-      relaid = λ before ins q ed o.
+      relaid = λ sound before ins q ed o.
           let new = rows_of k.meaning k.rules k.measure t in
           let b = begun k.meaning k.rules k.measure before ins e ed t old q o in
           let u = under_way k.meaning k.rules k.measure t e old b n c.restart-start.result c.carry.new.rows.rows.items c.first_reaching-first.ensures carried c.restart-start.ensures.value in
-          let x = laid.met new b.changed u in
+          let x = laid.met sound new b.changed u in
           let small = resumed_small k.meaning k.rules k.measure t e old new done j 0 c.restart-start.ensures.few b.anew x in
           let is : rows ≡ new = told (subst (AllByRecursion (λ (r : Row). Small (f r))) (sym (take_rest old j)) small) ∙ ap (λ (y : List Row). done ++ map f y) (take_rest old j) ∙ x.joins in
           let met : c.len-met.result ≡ meeting e old new = omega (arith, c.len-met.ensures.value, x.met) in

@@ -15,14 +15,14 @@ use Rattle.runner.proofs.carrying.carry_out.Goals as goal
 pub returns-in_err-at : goal.returns-in_err-at
 returns-in_err-at g c =
     let p = err_from_is_err_and c.from_residual.result c.from_residual.ensures.1 in
-    let s = state c.args.sheet.now in
+    let s = state g.M.Measurer.meaning g.M.Measurer.sound g.P.Policy.rules c.args.sheet.now in
     let line = c.args.line.now in
     λ k h n f. rw (p.1, p.2) (refused_line k h s line n _ (16 ∷ []) f (no_line k (clean_after k h) line (sym c.in_err-at.ensures.value)) refl)
 
 pub returns-in_err-slip-in-Replace : goal.returns-in_err-slip-in-Replace
 returns-in_err-slip-in-Replace g c =
     let p = err_from_is_err_and c.from_residual-in_err-slip-in-Replace.result c.from_residual-in_err-slip-in-Replace.ensures.1 in
-    let s = state c.replace.new.self in
+    let s = state g.M.Measurer.meaning g.M.Measurer.sound g.P.Policy.rules c.replace.new.self in
     let line = c.args.line.now in
     let told = c.in_err-slip-in-Replace.ensures in
     let at = c.in-Replace.at in
@@ -34,7 +34,7 @@ returns-in_err-slip-in-Replace g c =
 pub returns-in_err-new-in-Measure : goal.returns-in_err-new-in-Measure
 returns-in_err-new-in-Measure g c =
     let p = err_from_is_err_and c.from_residual-in_err-new-in-Measure.result c.from_residual-in_err-new-in-Measure.ensures.1 in
-    let s = state c.args.sheet.now in
+    let s = state g.M.Measurer.meaning g.M.Measurer.sound g.P.Policy.rules c.args.sheet.now in
     let line = c.args.line.now in
     let is = sym c.in_ok-at.ensures.value ∙ ap (λ (x : code.Command). Some (asked x)) c.in-Measure.is in
     λ k h n f. rw (p.1, p.2) (refused_line k h s line n _ (6 ∷ []) f (no_measure_line k (clean_after k h) line c.in-Measure.units is c.in_err-new-in-Measure.ensures) refl)
@@ -42,7 +42,7 @@ returns-in_err-new-in-Measure g c =
 pub returns-in_err-slip-in-Measure : goal.returns-in_err-slip-in-Measure
 returns-in_err-slip-in-Measure g c =
     let p = err_from_is_err_and c.from_residual-in_err-slip-in-Measure.result c.from_residual-in_err-slip-in-Measure.ensures.1 in
-    let s = state c.remeasure.new.self in
+    let s = state g.M.Measurer.meaning g.M.Measurer.sound g.P.Policy.rules c.remeasure.new.self in
     let line = c.args.line.now in
     let told = c.in_err-slip-in-Measure.ensures in
     let made = c.in_ok-new-in-Measure.ensures in
@@ -53,7 +53,7 @@ returns-in_err-slip-in-Measure g c =
 pub returns-in_err-row-in-Show : goal.returns-in_err-row-in-Show
 returns-in_err-row-in-Show g c =
     let p = err_from_is_err_and c.from_residual-in_err-row-in-Show.result c.from_residual-in_err-row-in-Show.ensures.1 in
-    let s = state c.args.sheet.now in
+    let s = state g.M.Measurer.meaning g.M.Measurer.sound g.P.Policy.rules c.args.sheet.now in
     let line = c.args.line.now in
     let told = c.in_err-row-in-Show.ensures in
     let i = c.in-Show.number in
@@ -62,8 +62,8 @@ returns-in_err-row-in-Show g c =
 
 pub returns-in_ok-slip-in-Replace : goal.returns-in_ok-slip-in-Replace
 returns-in_ok-slip-in-Replace g c =
-    let s₁ = state c.replace.new.self in
-    let s = state c.settle.new.sheet in
+    let s₁ = state g.M.Measurer.meaning g.M.Measurer.sound g.P.Policy.rules c.replace.new.self in
+    let s = state g.M.Measurer.meaning g.M.Measurer.sound g.P.Policy.rules c.settle.new.sheet in
     let line = c.args.line.now in
     let told = c.in_ok-slip-in-Replace.ensures in
     let at = c.in-Replace.at in
@@ -74,8 +74,8 @@ returns-in_ok-slip-in-Replace g c =
 
 pub returns-in_ok-slip-in-Measure : goal.returns-in_ok-slip-in-Measure
 returns-in_ok-slip-in-Measure g c =
-    let s₁ = state c.remeasure.new.self in
-    let s = state c.settle-in-Measure.new.sheet in
+    let s₁ = state g.M.Measurer.meaning g.M.Measurer.sound g.P.Policy.rules c.remeasure.new.self in
+    let s = state g.M.Measurer.meaning g.M.Measurer.sound g.P.Policy.rules c.settle-in-Measure.new.sheet in
     let line = c.args.line.now in
     let told = c.in_ok-slip-in-Measure.ensures in
     let made = c.in_ok-new-in-Measure.ensures in
@@ -85,8 +85,8 @@ returns-in_ok-slip-in-Measure g c =
 
 pub returns-in-Refresh : goal.returns-in-Refresh
 returns-in-Refresh g c =
-    let s₁ = state c.refresh-slip.new.self in
-    let s = state c.settle-in-Refresh.new.sheet in
+    let s₁ = state g.M.Measurer.meaning g.M.Measurer.sound g.P.Policy.rules c.refresh-slip.new.self in
+    let s = state g.M.Measurer.meaning g.M.Measurer.sound g.P.Policy.rules c.settle-in-Refresh.new.sheet in
     let line = c.args.line.now in
     let told = c.refresh-slip.ensures in
     let is = sym c.in_ok-at.ensures.value ∙ ap (λ (x : code.Command). Some (asked x)) c.in-Refresh.is in
@@ -94,7 +94,7 @@ returns-in-Refresh g c =
 
 pub returns-in_ok-row-in-Show : goal.returns-in_ok-row-in-Show
 returns-in_ok-row-in-Show g c =
-    let s = state c.args.sheet.now in
+    let s = state g.M.Measurer.meaning g.M.Measurer.sound g.P.Policy.rules c.args.sheet.now in
     let line = c.args.line.now in
     let told = c.in_ok-row-in-Show.ensures in
     let i = c.in-Show.number in

@@ -47,8 +47,8 @@ returns-then-script-gt-MAX_SCRIPT-clause-ran g c k h f = search (rules, tests)
 
 pub returns-in_err-map_err : goal.returns-in_err-map_err
 returns-in_err-map_err g c =
-    let s = state c.lines.sheet in
-    let s' = state c.run_line-reply.new.sheet in
+    let s = state g.M.Measurer.meaning g.M.Measurer.sound g.P.Policy.rules c.lines.sheet in
+    let s' = state g.M.Measurer.meaning g.M.Measurer.sound g.P.Policy.rules c.run_line-reply.new.sheet in
     let R = room c.args.list.now in
     let n = c.in-Some.before + 1 in
     let steps = c.in-Some.ensures.steps in
@@ -71,8 +71,8 @@ returns-in_err-map_err g c =
 
 pub lines-preserved : goal.lines-preserved
 lines-preserved g c =
-    let s = state c.lines.sheet in
-    let s' = state c.run_line-reply.new.sheet in
+    let s = state g.M.Measurer.meaning g.M.Measurer.sound g.P.Policy.rules c.lines.sheet in
+    let s' = state g.M.Measurer.meaning g.M.Measurer.sound g.P.Policy.rules c.run_line-reply.new.sheet in
     let R = room c.args.list.now in
     let n = c.in-Some.before + 1 in
     let steps = c.in-Some.ensures.steps in
@@ -96,7 +96,7 @@ lines-preserved g c =
 
 pub returns : goal.returns
 returns g c =
-    let s = state c.lines.sheet in
+    let s = state g.M.Measurer.meaning g.M.Measurer.sound g.P.Policy.rules c.lines.sheet in
     let R = room c.args.list.now in
     record {
       lender = c.lines.invariant.1;

@@ -1,11 +1,12 @@
-use Rattle.std.proofs.Common.{◌≡◌, ℕ, min, take, Some, vec_items, refl, ap, ◌∙◌, arith}
+use Rattle.std.proofs.Common.{◌≡◌, ℕ, min, take, Some, vec_items, ap, ◌∙◌, arith}
 use native.Mathlib.Nat.{sub-zero}
+use Rattle.sheet.proofs.Unchanging.{unchanged}
 use Rattle.screen.proofs.Painted.{none_there, none_measured, painted_row}
 use Rattle.screen.proofs.painting.paint_row.Goals as goal
 
 pub returns-in_default : goal.returns-in_default
 returns-in_default g c = record {
-  same = refl;
+  same = unchanged _;
   value = λ k h f. none_there k h _ f c.args.number _ _ (omega arith) (c.in_default.ensures.follows k h f).agrees.0.answer;
 }
 

@@ -1,9 +1,10 @@
-use Rattle.std.proofs.Common.{[], map, vec_items, sym, ap, ◌∙◌, subst, arith}
+use Rattle.std.proofs.Common.{[], map, vec_items, sym, ap, ◌∙◌, arith}
 use Rattle.std.proofs.lemmas.List.{length-map}
 use Rattle.std.specs.Option.{option_map}
 use Rattle.page.specs.declared.ending.Ending.TheVariants.{End}
 use Rattle.reflow.specs.Screens.{Shown}
-use Rattle.sheet.specs.Histories.{Follows, clean_after, clean_screen}
+use Rattle.sheet.specs.Histories.{clean_after, clean_screen}
+use Rattle.sheet.proofs.Unchanging.{unchanged_then, still_follows}
 use Rattle.screen.specs.Views.{shown_row}
 use Rattle.screen.proofs.Gathered.{row_more, rows_end, rows_all}
 use Rattle.screen.proofs.painting.paint_rows.Goals as goal
@@ -13,10 +14,10 @@ pub rows-preserved : goal.rows-preserved
 rows-preserved g c =
     let inv = c.rows.invariant in
     let told = c.in_ok-row.ensures in (
-      told.same ∙ inv.0,
+      unchanged_then inv.0 told.same,
       (λ k h f.
           ap (map shown_row) c.in_ok-push.ensures.items
-          ∙ row_more (clean_screen k (clean_after k h)) c.args.from c.rows.number (vec_items c.rows.painted) c.in-Some.row (omega arith) (inv.1 k h f) (ap (option_map shown_row) (sym c.in-Some.is) ∙ told.value k h (subst (Follows k h) (sym inv.0) f))),
+          ∙ row_more (clean_screen k (clean_after k h)) c.args.from c.rows.number (vec_items c.rows.painted) c.in-Some.row (omega arith) (inv.1 k h f) (ap (option_map shown_row) (sym c.in-Some.is) ∙ told.value k h (still_follows inv.0 k h f))),
     )
 
 pub returns : goal.returns
@@ -31,8 +32,8 @@ returns g c =
       | then-rows-test+in_ok-row+in_default w ↦
           let told = w.in_ok-row.ensures in
           record {
-            same = rw w.sheet-is (told.same ∙ inv.0);
-            value = λ k h f. inv.1 k h f ∙ rows_end (clean_screen k (clean_after k h)) c.args.from c.rows.number c.args.put empty (omega arith) (ap (option_map shown_row) (sym w.in_default.is) ∙ told.value k h (subst (Follows k h) (sym inv.0) f));
+            same = rw w.sheet-is (unchanged_then inv.0 told.same);
+            value = λ k h f. inv.1 k h f ∙ rows_end (clean_screen k (clean_after k h)) c.args.from c.rows.number c.args.put empty (omega arith) (ap (option_map shown_row) (sym w.in_default.is) ∙ told.value k h (still_follows inv.0 k h f));
           }
     ]
   where

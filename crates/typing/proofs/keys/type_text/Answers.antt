@@ -31,4 +31,4 @@ keys-preserved g c =
 
 pub returns : goal.returns
 returns g c k h f sees =
-    subst (λ (xs : List ℕ). Keys k h xs (Ok c.keys.effort) (state c.keys.sheet) (view c.keys.screen)) (take_all c.keys.place-counter c.args.text.now (omega arith)) (c.keys.invariant k h f sees)
+    subst (λ (xs : List ℕ). Keys k h xs (Ok c.keys.effort) (state g.M.Measurer.meaning g.M.Measurer.sound g.P.Policy.rules c.keys.sheet) (view c.keys.screen)) (take_all c.keys.place-counter c.args.text.now (omega arith)) (c.keys.invariant k h f sees)

@@ -10,6 +10,6 @@ use Rattle.typing.proofs.keys.type_text.Given as goal
 abbrev pub invariant-keys : goal.invariant-keys
 invariant-keys g l =
     (k : Making) (h : History)
-    → Follows k h (state l.initial.sheet)
+    → Follows k h (state g.M.Measurer.meaning g.M.Measurer.sound g.P.Policy.rules l.initial.sheet)
     → view l.initial.screen ≡ screen_after k h
-    → Keys k h (take l.place-counter l.text) (Ok l.effort) (state l.sheet) (view l.screen)
+    → Keys k h (take l.place-counter l.text) (Ok l.effort) (state g.M.Measurer.meaning g.M.Measurer.sound g.P.Policy.rules l.sheet) (view l.screen)

@@ -3,5 +3,7 @@ use Rattle.layers.specs.Cache.{Right}
 use Rattle.layers.proofs.Slots.{right_none}
 use Rattle.layers.proofs.cache.AdvanceCache.new.Goals as goal
 
-pub invariant_of-result : goal.invariant_of-result
-invariant_of-result g c = record { right = subst (Right (g.M.Measurer.meaning c.args.below)) (sym c.new.ensures) (right_none (g.M.Measurer.meaning c.args.below) 64) }
+pub returns-clause-sound : goal.returns-clause-sound
+returns-clause-sound g c below =
+    let m = g.M.Measurer.meaning c.args.below in
+    record { below = below; right = subst (Right m) (sym c.new.ensures) (right_none m 64) }

@@ -13,7 +13,7 @@ use Rattle.layout.proofs.Scanning.{at_newline, at_missing, at_over, at_on, at_en
 use Rattle.layout.proofs.setter.Setter.break_row.Goals as goal
 
 pub scan-init : goal.scan-init
-scan-init g c = rw (c.new-scan.ensures, c.min.ensures, c.len.ensures.value) (omega arith, omega arith, refl, refl, refl, refl, refl)
+scan-init g c = rw (c.new-scan.ensures, c.min.ensures, c.len.ensures.value) (omega arith, omega arith, refl, refl, (λ _. refl), refl, refl, (λ sound. sound))
 
 pub returns-then-c-eq-NEWLINE : goal.returns-then-c-eq-NEWLINE
 returns-then-c-eq-NEWLINE g c =
@@ -21,14 +21,15 @@ returns-then-c-eq-NEWLINE g c =
     let k = style g.M.Measurer.meaning g.P.Policy.rules c.args.self.now in
     let t = g.T.Characters.chars c.args.text.now in
     let s = c.scan.scan in
-    let found : Ok c.whole.result ≡ row_from k.meaning k.rules k.measure t (min c.args.start (length t)) =
-    ap Ok c.whole.ensures ∙ sym (at_newline _ _ _ s t _ _ (sym c.in-Some.ensures) c.if-c-eq-NEWLINE.true) ∙ inv.4 in
+    let found : g.M.Measurer.sound c.args.self.now.measurer → Ok c.whole.result ≡ row_from k.meaning k.rules k.measure t (min c.args.start (length t)) =
+    λ sound. ap Ok c.whole.ensures ∙ sym (at_newline _ _ _ s t _ _ (sym c.in-Some.ensures) c.if-c-eq-NEWLINE.true) ∙ inv.4 sound in
     record {
       kept = inv.2;
       lenders = inv.6;
       policy = inv.5;
+      stays = inv.7;
       value = found;
-      first_fit = rightly_broken k.meaning k.rules k.measure t (min c.args.start (length t)) _ (omega arith) found;
+      first_fit = λ sound. rightly_broken k.meaning k.rules k.measure t (min c.args.start (length t)) _ (omega arith) (found sound);
       laws = row_laws k.meaning k.rules k.measure;
       few = c.len.ensures.few;
       counted = inv.3;
@@ -45,14 +46,15 @@ returns-in_err-advance g c =
     let told : c.advance.result ≡ Err e.glyph = search rules in
     let is : e ≡ record { offset = s.place; glyph = e.glyph } = search rules in
     let p = err_from_is_err_and c.from_residual.result c.from_residual.ensures.1 in
-    let found : Err (record { offset = s.place; glyph = e.glyph }) ≡ row_from k.meaning k.rules k.measure t (min c.args.start (length t)) =
-    sym (at_missing _ _ _ s t _ _ (sym c.in-Some.ensures) c.if-c-eq-NEWLINE.false _ (ap (λ m. answer m s.before c.in-Some.c) (sym asked) ∙ sym c.advance.ensures.value ∙ told)) ∙ inv.4 in
+    let found : g.M.Measurer.sound c.args.self.now.measurer → Err (record { offset = s.place; glyph = e.glyph }) ≡ row_from k.meaning k.rules k.measure t (min c.args.start (length t)) =
+    λ sound. sym (at_missing _ _ _ s t _ _ (sym c.in-Some.ensures) c.if-c-eq-NEWLINE.false _ (ap (λ m. answer m s.before c.in-Some.c) (sym asked) ∙ sym (c.advance.ensures.value (inv.7 sound)) ∙ told)) ∙ inv.4 sound in
     record {
       kept = still c.advance.ensures.same inv.2;
       lenders = c.advance.ensures.lenders ∙ inv.6;
       policy = inv.5;
-      value = p.1 ∙ ap Err (p.2 ∙ is) ∙ found;
-      first_fit = rw (p.1, p.2 ∙ is) (rightly_broken k.meaning k.rules k.measure t (min c.args.start (length t)) _ (omega arith) found);
+      stays = λ sound. c.advance.ensures.stays (inv.7 sound);
+      value = λ sound. p.1 ∙ ap Err (p.2 ∙ is) ∙ found sound;
+      first_fit = λ sound. rw (p.1, p.2 ∙ is) (rightly_broken k.meaning k.rules k.measure t (min c.args.start (length t)) _ (omega arith) (found sound));
       laws = row_laws k.meaning k.rules k.measure;
       few = c.len.ensures.few;
       counted = inv.3;
@@ -80,20 +82,21 @@ returns-then-next-units g c =
     let s = c.scan.scan in
     let asked : g.M.Measurer.meaning c.scan.self.measurer ≡ k.meaning = ap (λ (x : Style). x.meaning) inv.2 in
     let told : c.advance.result ≡ Ok c.in_ok-advance.advance = search rules in
-    let said : answer k.meaning s.before c.in-Some.c ≡ Ok c.in_ok-advance.advance = ap (λ m. answer m s.before c.in-Some.c) (sym asked) ∙ sym c.advance.ensures.value ∙ told in
+    let said : g.M.Measurer.sound c.args.self.now.measurer → answer k.meaning s.before c.in-Some.c ≡ Ok c.in_ok-advance.advance = λ sound. ap (λ m. answer m s.before c.in-Some.c) (sym asked) ∙ sym (c.advance.ensures.value (inv.7 sound)) ∙ told in
     let n = taken k.rules s c.in-Some.c c.in_ok-advance.advance in
     let is-n : c.taken-next.result ≡ n = c.taken-next.ensures ∙ ap (λ (x : Style). taken x.rules s c.in-Some.c c.in_ok-advance.advance) inv.2 in
     let units : c.units.result ≡ k.measure = c.units.ensures.value ∙ ap (λ (x : Style). x.measure) inv.2 in
     let wide : k.measure < n.width = rw (is-n, units) at c.if-next-units.true in
     let follows : c.get-then-next-units.result ≡ seen t (s.place + 1) = c.get-then-next-units.ensures ∙ ap (λ (x : Scan). seen t x.place) is-n in
-    let found : Ok c.over.result ≡ row_from k.meaning k.rules k.measure t (min c.args.start (length t)) =
-    ap Ok (c.over.ensures ∙ ap₂ (over_row s) is-n follows) ∙ sym (at_over k.meaning k.rules k.measure s t _ _ (sym c.in-Some.ensures) c.if-c-eq-NEWLINE.false _ said wide) ∙ inv.4 in
+    let found : g.M.Measurer.sound c.args.self.now.measurer → Ok c.over.result ≡ row_from k.meaning k.rules k.measure t (min c.args.start (length t)) =
+    λ sound. ap Ok (c.over.ensures ∙ ap₂ (over_row s) is-n follows) ∙ sym (at_over k.meaning k.rules k.measure s t _ _ (sym c.in-Some.ensures) c.if-c-eq-NEWLINE.false _ (said sound) wide) ∙ inv.4 sound in
     record {
       kept = still c.advance.ensures.same inv.2;
       lenders = c.advance.ensures.lenders ∙ inv.6;
       policy = inv.5;
+      stays = λ sound. c.advance.ensures.stays (inv.7 sound);
       value = found;
-      first_fit = rightly_broken k.meaning k.rules k.measure t (min c.args.start (length t)) _ (omega arith) found;
+      first_fit = λ sound. rightly_broken k.meaning k.rules k.measure t (min c.args.start (length t)) _ (omega arith) (found sound);
       laws = row_laws k.meaning k.rules k.measure;
       few = c.len.ensures.few;
       counted = inv.3;
@@ -114,7 +117,7 @@ scan-preserved g c =
     let s = c.scan.scan in
     let asked : g.M.Measurer.meaning c.scan.self.measurer ≡ k.meaning = ap (λ (x : Style). x.meaning) inv.2 in
     let told : c.advance.result ≡ Ok c.in_ok-advance.advance = search rules in
-    let said : answer k.meaning s.before c.in-Some.c ≡ Ok c.in_ok-advance.advance = ap (λ m. answer m s.before c.in-Some.c) (sym asked) ∙ sym c.advance.ensures.value ∙ told in
+    let said : g.M.Measurer.sound c.args.self.now.measurer → answer k.meaning s.before c.in-Some.c ≡ Ok c.in_ok-advance.advance = λ sound. ap (λ m. answer m s.before c.in-Some.c) (sym asked) ∙ sym (c.advance.ensures.value (inv.7 sound)) ∙ told in
     let n = taken k.rules s c.in-Some.c c.in_ok-advance.advance in
     let is-n : c.taken-next.result ≡ n = c.taken-next.ensures ∙ ap (λ (x : Style). taken x.rules s c.in-Some.c c.in_ok-advance.advance) inv.2 in
     let units : c.units.result ≡ k.measure = c.units.ensures.value ∙ ap (λ (x : Style). x.measure) inv.2 in
@@ -126,9 +129,10 @@ scan-preserved g c =
       omega arith,
       still c.advance.ensures.same inv.2,
       inv.3,
-      rw is-n (sym (at_on k.meaning k.rules k.measure s t _ _ (sym c.in-Some.ensures) c.if-c-eq-NEWLINE.false _ said fits) ∙ inv.4),
+      (λ sound. rw is-n (sym (at_on k.meaning k.rules k.measure s t _ _ (sym c.in-Some.ensures) c.if-c-eq-NEWLINE.false _ (said sound) fits) ∙ inv.4 sound)),
       inv.5,
       c.advance.ensures.lenders ∙ inv.6,
+      (λ sound. c.advance.ensures.stays (inv.7 sound)),
     )
 
 pub returns : goal.returns
@@ -137,14 +141,15 @@ returns g c =
     let k = style g.M.Measurer.meaning g.P.Policy.rules c.args.self.now in
     let t = g.T.Characters.chars c.args.text.now in
     let s = c.scan.scan in
-    let found : Ok c.whole-2.result ≡ row_from k.meaning k.rules k.measure t (min c.args.start (length t)) =
-    ap Ok c.whole-2.ensures ∙ sym (at_end _ _ _ s t _ (sym c.in_default.ensures)) ∙ inv.4 in
+    let found : g.M.Measurer.sound c.args.self.now.measurer → Ok c.whole-2.result ≡ row_from k.meaning k.rules k.measure t (min c.args.start (length t)) =
+    λ sound. ap Ok c.whole-2.ensures ∙ sym (at_end _ _ _ s t _ (sym c.in_default.ensures)) ∙ inv.4 sound in
     record {
       kept = inv.2;
       lenders = inv.6;
       policy = inv.5;
+      stays = inv.7;
       value = found;
-      first_fit = rightly_broken k.meaning k.rules k.measure t (min c.args.start (length t)) _ (omega arith) found;
+      first_fit = λ sound. rightly_broken k.meaning k.rules k.measure t (min c.args.start (length t)) _ (omega arith) (found sound);
       laws = row_laws k.meaning k.rules k.measure;
       few = c.len.ensures.few;
       counted = inv.3;

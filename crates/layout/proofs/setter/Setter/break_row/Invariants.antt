@@ -13,9 +13,10 @@ invariant-scan g l =
     × (l.scan.edge ≤ 65535 * l.scan.place)
     × (style g.M.Measurer.meaning g.P.Policy.rules l.self ≡ k)
     × (l.self.tally ≡ l.initial.self.tally)
-    × (scan k.meaning k.rules k.measure l.scan (drop l.scan.place t) ≡ row_from k.meaning k.rules k.measure t s)
+    × (g.M.Measurer.sound l.initial.self.measurer → scan k.meaning k.rules k.measure l.scan (drop l.scan.place t) ≡ row_from k.meaning k.rules k.measure t s)
     × (l.self.policy ≡ l.initial.self.policy)
     × (g.M.Measurer.lenders l.self.measurer ≡ g.M.Measurer.lenders l.initial.self.measurer)
+    × (g.M.Measurer.sound l.initial.self.measurer → g.M.Measurer.sound l.self.measurer)
 
 abbrev pub decreases-scan : goal.decreases-scan
 decreases-scan g l = length (g.T.Characters.chars l.text) - l.scan.place

@@ -24,17 +24,18 @@ returns-in_err-row g c =
     let u = c.in_err-row.field-0.0 in
     let short : length done < most_rows = omega (arith, c.rows-test.true, c.len.ensures.value) in
     let p = err_from_is_err_and c.from_residual.result c.from_residual.ensures.1 in
-    let ended : Ended (laid k.meaning k.rules k.measure t) (Err (NoGlyph u)) done (length done + 1) =
-    stopped_at_missing k.meaning k.rules k.measure t most_rows done c.rows.start (laid k.meaning k.rules k.measure t) inv.2 u short
-    (broke_at c.rows.start (length t) inv.1 (row_from k.meaning k.rules k.measure t) ∙ ap (λ (x : Style). row_from x.meaning x.rules x.measure t (min c.rows.start (length t))) (sym inv.0) ∙ sym (told.value)) in
+    let ended : (s : g.M.Measurer.sound c.args.self.now.measurer) → Ended (laid k.meaning k.rules k.measure t) (Err (NoGlyph u)) done (length done + 1) = λ s.
+    stopped_at_missing k.meaning k.rules k.measure t most_rows done c.rows.start (laid k.meaning k.rules k.measure t) (inv.3 s) u short
+    (broke_at c.rows.start (length t) (inv.2 s) (row_from k.meaning k.rules k.measure t) ∙ ap (λ (x : Style). row_from x.meaning x.rules x.measure t (min c.rows.start (length t))) (sym inv.0) ∙ sym (told.value (inv.1 s))) in
     record {
       kept = told.kept ∙ inv.0;
-      lenders = told.lenders ∙ inv.6;
-      policy = told.policy ∙ inv.5;
-      value = p.1 ∙ ap Err p.2 ∙ sym ended.answer;
-      items = sym ended.rows;
+      lenders = told.lenders ∙ inv.7;
+      policy = told.policy ∙ inv.6;
+      stays = λ s. told.stays (inv.1 s);
+      value = λ s. p.1 ∙ ap Err p.2 ∙ sym (ended s).answer;
+      items = λ s. sym (ended s).rows;
       laws = layout_laws k.meaning k.rules k.measure;
-      counted = counted_more c.args.self.now.tally c.rows.self.tally _ (length done) inv.3 inv.4 told.counted ∙ ap (λ (n : ℕ). (c.args.self.now.tally + n) % 2 ^ 64) (sym ended.broken);
+      counted = λ s. counted_more c.args.self.now.tally c.rows.self.tally _ (length done) inv.4 inv.5 told.counted ∙ ap (λ (n : ℕ). (c.args.self.now.tally + n) % 2 ^ 64) (sym (ended s).broken);
     }
 
 pub returns-in_default : goal.returns-in_default
@@ -46,20 +47,21 @@ returns-in_default g c =
     let done = c.rows.rows.rows.items in
     let r = c.in_ok-row.row in
     let short : length done < most_rows = omega (arith, c.rows-test.true, c.len.ensures.value) in
-    let found : row_from k.meaning k.rules k.measure t c.rows.start ≡ Ok r =
-    broke_at c.rows.start (length t) inv.1 (row_from k.meaning k.rules k.measure t) ∙ ap (λ (x : Style). row_from x.meaning x.rules x.measure t (min c.rows.start (length t))) (sym inv.0) ∙ sym (told.value) in
-    let within : r.end ≤ 4096 =
-    let e = (placed k.meaning k.rules k.measure t c.rows.start r ((row_laws k.meaning k.rules k.measure).is_first_fit t c.rows.start r inv.1 found)).ends in let few = told.few in omega arith in
-    let ended : Ended (laid k.meaning k.rules k.measure t) (Ok tt) (done ++ r ∷ []) (length done + 1) =
-    stopped_at_end k.meaning k.rules k.measure t most_rows done c.rows.start (laid k.meaning k.rules k.measure t) inv.2 r short found (sym (c.in_default.ensures within)) in
+    let found : (s : g.M.Measurer.sound c.args.self.now.measurer) → row_from k.meaning k.rules k.measure t c.rows.start ≡ Ok r = λ s.
+    broke_at c.rows.start (length t) (inv.2 s) (row_from k.meaning k.rules k.measure t) ∙ ap (λ (x : Style). row_from x.meaning x.rules x.measure t (min c.rows.start (length t))) (sym inv.0) ∙ sym (told.value (inv.1 s)) in
+    let within : (s : g.M.Measurer.sound c.args.self.now.measurer) → r.end ≤ 4096 = λ s.
+    let e = (placed k.meaning k.rules k.measure t c.rows.start r ((row_laws k.meaning k.rules k.measure).is_first_fit t c.rows.start r (inv.2 s) (found s))).ends in let few = told.few in omega arith in
+    let ended : (s : g.M.Measurer.sound c.args.self.now.measurer) → Ended (laid k.meaning k.rules k.measure t) (Ok tt) (done ++ r ∷ []) (length done + 1) = λ s.
+    stopped_at_end k.meaning k.rules k.measure t most_rows done c.rows.start (laid k.meaning k.rules k.measure t) (inv.3 s) r short (found s) (sym (c.in_default.ensures (within s))) in
     record {
       kept = told.kept ∙ inv.0;
-      lenders = told.lenders ∙ inv.6;
-      policy = told.policy ∙ inv.5;
-      value = sym ended.answer;
-      items = c.in_ok-push.ensures.value ∙ sym ended.rows;
+      lenders = told.lenders ∙ inv.7;
+      policy = told.policy ∙ inv.6;
+      stays = λ s. told.stays (inv.1 s);
+      value = λ s. sym (ended s).answer;
+      items = λ s. c.in_ok-push.ensures.value ∙ sym (ended s).rows;
       laws = layout_laws k.meaning k.rules k.measure;
-      counted = counted_more c.args.self.now.tally c.rows.self.tally _ (length done) inv.3 inv.4 told.counted ∙ ap (λ (n : ℕ). (c.args.self.now.tally + n) % 2 ^ 64) (sym ended.broken);
+      counted = λ s. counted_more c.args.self.now.tally c.rows.self.tally _ (length done) inv.4 inv.5 told.counted ∙ ap (λ (n : ℕ). (c.args.self.now.tally + n) % 2 ^ 64) (sym (ended s).broken);
     }
 
 pub rows-smaller : goal.rows-smaller
@@ -80,18 +82,19 @@ rows-preserved g c =
     let pushed : more ≡ done ++ r ∷ [] = c.in_ok-push.ensures.value in
     let long : length more ≡ length done + 1 = ap length pushed ∙ length_push done r in
     let short : length done < most_rows = omega (arith, c.rows-test.true, c.len.ensures.value) in
-    let found : row_from k.meaning k.rules k.measure t c.rows.start ≡ Ok r =
-    broke_at c.rows.start (length t) inv.1 (row_from k.meaning k.rules k.measure t) ∙ ap (λ (x : Style). row_from x.meaning x.rules x.measure t (min c.rows.start (length t))) (sym inv.0) ∙ sym (told.value) in
-    let within : r.end ≤ 4096 =
-    let e = (placed k.meaning k.rules k.measure t c.rows.start r ((row_laws k.meaning k.rules k.measure).is_first_fit t c.rows.start r inv.1 found)).ends in let few = told.few in omega arith in
-    let next : following r ≡ Some s' = sym (c.in-Some.ensures within) in (
+    let found : (s : g.M.Measurer.sound c.args.self.now.measurer) → row_from k.meaning k.rules k.measure t c.rows.start ≡ Ok r = λ s.
+    broke_at c.rows.start (length t) (inv.2 s) (row_from k.meaning k.rules k.measure t) ∙ ap (λ (x : Style). row_from x.meaning x.rules x.measure t (min c.rows.start (length t))) (sym inv.0) ∙ sym (told.value (inv.1 s)) in
+    let within : (s : g.M.Measurer.sound c.args.self.now.measurer) → r.end ≤ 4096 = λ s.
+    let e = (placed k.meaning k.rules k.measure t c.rows.start r ((row_laws k.meaning k.rules k.measure).is_first_fit t c.rows.start r (inv.2 s) (found s))).ends in let few = told.few in omega arith in
+    let next : (s : g.M.Measurer.sound c.args.self.now.measurer) → following r ≡ Some s' = λ s. sym (c.in-Some.ensures (within s)) in (
       told.kept ∙ inv.0,
-      ((placed k.meaning k.rules k.measure t c.rows.start r ((row_laws k.meaning k.rules k.measure).is_first_fit t c.rows.start r inv.1 found)).on s' next).1,
-      ap (λ (x : List Row). behind x (laid_from k.meaning k.rules k.measure t (most_rows - length x) s')) pushed ∙ goes_on k.meaning k.rules k.measure t most_rows done c.rows.start (laid k.meaning k.rules k.measure t) inv.2 r s' short found next,
+      (λ s. told.stays (inv.1 s)),
+      (λ s. ((placed k.meaning k.rules k.measure t c.rows.start r ((row_laws k.meaning k.rules k.measure).is_first_fit t c.rows.start r (inv.2 s) (found s))).on s' (next s)).1),
+      (λ s. ap (λ (x : List Row). behind x (laid_from k.meaning k.rules k.measure t (most_rows - length x) s')) pushed ∙ goes_on k.meaning k.rules k.measure t most_rows done c.rows.start (laid k.meaning k.rules k.measure t) (inv.3 s) r s' short (found s) (next s)),
       (λ z. absurd (omega arith)),
-      (λ _. counted_more c.args.self.now.tally c.rows.self.tally _ (length done) inv.3 inv.4 told.counted ∙ ap (λ (n : ℕ). (c.args.self.now.tally + n) % 2 ^ 64) (sym long)),
-      told.policy ∙ inv.5,
-      told.lenders ∙ inv.6,
+      (λ _. counted_more c.args.self.now.tally c.rows.self.tally _ (length done) inv.4 inv.5 told.counted ∙ ap (λ (n : ℕ). (c.args.self.now.tally + n) % 2 ^ 64) (sym long)),
+      told.policy ∙ inv.6,
+      told.lenders ∙ inv.7,
     )
 
 pub returns : goal.returns
@@ -101,14 +104,15 @@ returns g c =
     let t = g.T.Characters.chars c.args.text.now in
     let done = c.rows.rows.rows.items in
     let full : most_rows ≤ length done = omega (arith, c.rows-test.false, c.len.ensures.value) in
-    let ended : Ended (laid k.meaning k.rules k.measure t) (Err TooManyRows) done (length done) =
-    stopped_full k.meaning k.rules k.measure t most_rows done c.rows.start (laid k.meaning k.rules k.measure t) inv.2 full in
+    let ended : (s : g.M.Measurer.sound c.args.self.now.measurer) → Ended (laid k.meaning k.rules k.measure t) (Err TooManyRows) done (length done) = λ s.
+    stopped_full k.meaning k.rules k.measure t most_rows done c.rows.start (laid k.meaning k.rules k.measure t) (inv.3 s) full in
     record {
       kept = inv.0;
-      lenders = inv.6;
-      policy = inv.5;
-      value = sym ended.answer;
-      items = sym ended.rows;
+      lenders = inv.7;
+      policy = inv.6;
+      stays = inv.1;
+      value = λ s. sym (ended s).answer;
+      items = λ s. sym (ended s).rows;
       laws = layout_laws k.meaning k.rules k.measure;
-      counted = inv.4 (omega arith) ∙ ap (λ (n : ℕ). (c.args.self.now.tally + n) % 2 ^ 64) (sym ended.broken);
+      counted = λ s. inv.5 (omega arith) ∙ ap (λ (n : ℕ). (c.args.self.now.tally + n) % 2 ^ 64) (sym (ended s).broken);
     }

@@ -11,8 +11,9 @@ invariant-rows g l =
     let k = style g.M.Measurer.meaning g.P.Policy.rules l.initial.self in
     let done = l.rows.rows.items in
     (style g.M.Measurer.meaning g.P.Policy.rules l.self ≡ k)
-    × (l.start ≤ length t)
-    × (behind done (laid_from k.meaning k.rules k.measure t (most_rows - length done) l.start) ≡ laid k.meaning k.rules k.measure t)
+    × (g.M.Measurer.sound l.initial.self.measurer → g.M.Measurer.sound l.self.measurer)
+    × (g.M.Measurer.sound l.initial.self.measurer → l.start ≤ length t)
+    × (g.M.Measurer.sound l.initial.self.measurer → behind done (laid_from k.meaning k.rules k.measure t (most_rows - length done) l.start) ≡ laid k.meaning k.rules k.measure t)
     × (length done ≡ 0 → l.self.tally ≡ l.initial.self.tally)
     × (0 < length done → l.self.tally ≡ (l.initial.self.tally + length done) % 2 ^ 64)
     × (l.self.policy ≡ l.initial.self.policy)

@@ -20,15 +20,16 @@ returns-in_err-check_cover g c =
     let t = c.args.text.now in
     let u = c.in_err-check_cover.field-0.0 in
     let p = err_from_is_err_and c.from_residual.result c.from_residual.ensures.1 in
-    let is : setting_of m P w t ≡ Err (NoGlyph u) =
-    refused_for_glyph m P w t u (told_some (first_uncovered m 0 t) u (told.value ∙ ap (λ (x : List ℕ). cover_answer (first_uncovered m 0 x)) c.as_slice.ensures.value)) in
+    let is : g.M.Measurer.sound c.args.self.now.measurer → setting_of m P w t ≡ Err (NoGlyph u) = λ s.
+    refused_for_glyph m P w t u (told_some (first_uncovered m 0 t) u (told.value s ∙ ap (λ (x : List ℕ). cover_answer (first_uncovered m 0 x)) c.as_slice.ensures.value)) in
     record {
       kept = still told.same refl;
       lenders = told.lenders;
       policy = refl;
       counted = refl;
-      value = rw (p.1, p.2) is;
-      first_fit = rw (p.1, p.2) (rightly_refused m P w t (layout_laws m P w) (NoGlyph u) is);
+      stays = told.stays;
+      value = λ s. rw (p.1, p.2) (is s);
+      first_fit = λ s. rw (p.1, p.2) (rightly_refused m P w t (layout_laws m P w) (NoGlyph u) (is s));
     }
 
 pub returns-in_err-laid : goal.returns-in_err-laid
@@ -41,17 +42,18 @@ returns-in_err-laid g c =
     let t = c.args.text.now in
     let e = c.in_err-laid.field-0.0 in
     let p = err_from_is_err_and c.from_residual-in_err-laid.result c.from_residual-in_err-laid.ensures.1 in
-    let is : setting_of m P w t ≡ Err e =
+    let is : g.M.Measurer.sound c.args.self.now.measurer → setting_of m P w t ≡ Err e = λ s.
     refused_by_layout m P w t e
-    (told_none (first_uncovered m 0 t) tt (checked.value ∙ ap (λ (x : List ℕ). cover_answer (first_uncovered m 0 x)) c.as_slice.ensures.value))
-    (ap (λ (x : Meaning). (laid x P w t).answer) (sym checked.same) ∙ sym (told.value)) in
+    (told_none (first_uncovered m 0 t) tt (checked.value s ∙ ap (λ (x : List ℕ). cover_answer (first_uncovered m 0 x)) c.as_slice.ensures.value))
+    (ap (λ (x : Meaning). (laid x P w t).answer) (sym checked.same) ∙ sym (told.value (checked.stays s))) in
     record {
       kept = told.kept ∙ still checked.same refl;
       lenders = told.lenders ∙ checked.lenders;
       policy = told.policy;
       counted = refl;
-      value = rw (p.1, p.2) is;
-      first_fit = rw (p.1, p.2) (rightly_refused m P w t (layout_laws m P w) e is);
+      stays = λ s. told.stays (checked.stays s);
+      value = λ s. rw (p.1, p.2) (is s);
+      first_fit = λ s. rw (p.1, p.2) (rightly_refused m P w t (layout_laws m P w) e (is s));
     }
 
 pub returns : goal.returns
@@ -62,16 +64,17 @@ returns g c =
     let P = g.P.Policy.rules c.args.self.now.policy in
     let w = c.args.self.now.measure in
     let t = c.args.text.now in
-    let is : setting_of m P w t ≡ Ok c.lay-laid.new.rows.rows.items =
+    let is : g.M.Measurer.sound c.args.self.now.measurer → setting_of m P w t ≡ Ok c.lay-laid.new.rows.rows.items = λ s.
     set_by_layout m P w t tt
-    (told_none (first_uncovered m 0 t) tt (checked.value ∙ ap (λ (x : List ℕ). cover_answer (first_uncovered m 0 x)) c.as_slice.ensures.value))
-    (ap (λ (x : Meaning). (laid x P w t).answer) (sym checked.same) ∙ sym (told.value))
-    ∙ ap Ok (ap (λ (x : Meaning). (laid x P w t).rows) (sym checked.same) ∙ sym (told.items)) in
+    (told_none (first_uncovered m 0 t) tt (checked.value s ∙ ap (λ (x : List ℕ). cover_answer (first_uncovered m 0 x)) c.as_slice.ensures.value))
+    (ap (λ (x : Meaning). (laid x P w t).answer) (sym checked.same) ∙ sym (told.value (checked.stays s)))
+    ∙ ap Ok (ap (λ (x : Meaning). (laid x P w t).rows) (sym checked.same) ∙ sym (told.items (checked.stays s))) in
     record {
       kept = told.kept ∙ still checked.same refl;
       lenders = told.lenders ∙ checked.lenders;
       policy = told.policy;
       counted = refl;
+      stays = λ s. told.stays (checked.stays s);
       value = is;
-      first_fit = accepted m P w t (layout_laws m P w) _ is;
+      first_fit = λ s. accepted m P w t (layout_laws m P w) _ (is s);
     }

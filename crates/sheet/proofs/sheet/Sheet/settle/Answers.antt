@@ -7,7 +7,7 @@ pub returns : goal.returns
 returns g c =
     let is : c.args.self.now.owed ≡ Some c.in_ok-owed.owed = search rules in
     record {
-      follows = λ k h f. settled_call k h _ _ f c.in_ok-owed.owed is (record { meaning = refl; rules = refl; measure = refl; text = refl; rows = refl; owed = c.take.ensures.after });
+      follows = λ k h f. settled_call k h _ _ f c.in_ok-owed.owed is (record { meaning = refl; rules = refl; sound = λ x. x; measure = refl; text = refl; rows = refl; owed = c.take.ensures.after });
       counted = refl;
       kept = tt;
     }
@@ -17,7 +17,7 @@ returns-in_err-owed g c =
     let is : c.args.self.now.owed ≡ None = search rules in
     let p = err_from_is_err_and c.from_residual.result c.from_residual.ensures.1 in
     record {
-      follows = λ k h f. rw p.1 (unsettled_call k h _ _ f is (record { meaning = refl; rules = refl; measure = refl; text = refl; rows = refl; owed = c.take.ensures.after }));
+      follows = λ k h f. rw p.1 (unsettled_call k h _ _ f is (record { meaning = refl; rules = refl; sound = λ x. x; measure = refl; text = refl; rows = refl; owed = c.take.ensures.after }));
       counted = refl;
       kept = rw p.1 refl;
     }
