@@ -1,6 +1,7 @@
 // The table of worked labels, run.
 use fonts::font::Font;
 use fonts::pile::pile;
+use layers::cache::AdvanceCache;
 use layers::tracking::TrackingUnits;
 use layout::setter::Setter;
 use metrics::cells::Cells;
@@ -143,4 +144,19 @@ fn kerned_label(rt: HostRuntime) -> Result<(), Fail> {
             row(3, 5, Ending::End, 600, 6),
         ],
     )
+}
+
+// Asks a cache, whatever lies below it.
+fn holds<M>(cache: &AdvanceCache<M>, before: Option<u8>, c: u8) -> bool {
+    cache.held(before, c)
+}
+
+#[test]
+fn pair_held_once_it_is_answered(rt: HostRuntime) -> Result<(), Fail> {
+    let mut cache = AdvanceCache::new(Cells::new(500)?);
+    assert!(rt; !holds(&cache, Some(b'a'), b'b'));
+    assert_eq!(rt; cache.advance(Some(b'a'), b'b'), Ok(500));
+    assert!(rt; holds(&cache, Some(b'a'), b'b'));
+    assert!(rt; !holds(&cache, None, b'b'));
+    Ok(())
 }

@@ -151,3 +151,23 @@ fn limits(rt: HostRuntime) -> Result<(), Fail> {
     );
     Ok(())
 }
+
+// A sheet and the last record of it, whatever measures the text.
+#[derive(Drop)]
+struct Desk<M, P> {
+    sheet: Sheet<M, P>,
+    record: Repaint,
+}
+
+#[test]
+fn record_kept_beside_its_sheet(rt: HostRuntime) -> Result<(), Fail> {
+    let setter = Setter::new(Cells::new(500)?, Spaces, Measure::new(1_000)?);
+    let mut desk = Desk {
+        sheet: Sheet::new(rt.alloc(), setter)?,
+        record: Repaint::default(),
+    };
+    let slip = desk.sheet.replace(0, 0, b"a bc")?;
+    assert!(rt; desk.sheet.settle(slip, &mut desk.record).is_ok());
+    assert_eq!(rt; Some(desk.record), record(0, 1, 2, 2));
+    Ok(())
+}
