@@ -70,7 +70,8 @@ impl HeldPairs {
     }
 }
 
-// The measurer below, with the advances of at most 64 pairs.
+// The measurer below, with the advances of at most 64 pairs. That these are right is the cache's soundness, and
+// no ghost field, which would ask whoever names the type for the bound.
 #[derive(Drop)]
 pub struct AdvanceCache<M> {
     below: M,
