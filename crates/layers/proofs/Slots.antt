@@ -102,9 +102,10 @@ full_at_next s n lt fills f k k_lt =
     let last : filled s 63 ≡ true = sym (ap (λ b. b || filled s 63) (le-ltb n n (omega arith))) ∙ sym (fills n lt) ∙ f in
     fills k k_lt ∙ or_right (ltb k n) (filled s 63) last
 
-pub keeps_set : {B : Type 0} (s : Slots) (n : ℕ) (b b' : B) (p : Option ℕ) (c a : ℕ) → length s ≡ 64 → n < 64 → Apart s → FillsInTurn s n → (Holds s p c → ⊥)
-    → Keeps s (set s n (Some (record { before = p; code = c; advance = a }))) b b' p c (Ok a)
-keeps_set s n b b' p c a long lt apart fills new =
+-- whatever advance is held with the pair, and whatever is answered
+pub keeps_set : {B : Type 0} (s : Slots) (n : ℕ) (b b' : B) (p : Option ℕ) (c a a' : ℕ) → length s ≡ 64 → n < 64 → Apart s → FillsInTurn s n → (Holds s p c → ⊥)
+    → Keeps s (set s n (Some (record { before = p; code = c; advance = a }))) b b' p c (Ok a')
+keeps_set s n b b' p c a a' long lt apart fills new =
     let h : Held = record { before = p; code = c; advance = a } in
     let room : n < length s = omega arith in
     record {

@@ -10,4 +10,4 @@ returns-clause-keeps g c =
     let p = c.args.before in
     let a = c.in_ok-advance.advance in
     subst (λ (s : Slots). Keeps pairs.slots s self.below c.advance.new.self p c.args.c (Ok a)) (sym c.keep.ensures)
-    (keeps_set pairs.slots pairs.next self.below c.advance.new.self p c.args.c a pairs.all pairs.within pairs.apart pairs.turn c.in_default.ensures)
+    (keeps_set pairs.slots pairs.next self.below c.advance.new.self p c.args.c _ a pairs.all pairs.within pairs.apart pairs.turn c.in_default.ensures)
