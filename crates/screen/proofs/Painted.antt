@@ -14,7 +14,7 @@ use Rattle.sheet.specs.Clean.{Making, Clean, clean_rows, show_by, copied}
 use Rattle.sheet.specs.Clean.Answer.{refused, shown}
 use Rattle.sheet.specs.Edges.{edges_by, measured}
 use Rattle.sheet.specs.Histories.{History, State, Follows, clean_after, clean_screen}
-use Rattle.sheet.proofs.Showing.{Inside, inside}
+use Rattle.sheet.proofs.Showing.{Inside, inside_clean}
 
 -- a row that was shown
 module _ (c : Clean) (b : List ℕ) where
@@ -67,7 +67,7 @@ module _ (k : Making) (h : History) (s : State) (f : Follows k h s) (i : ℕ) wh
   at_screen o e = slice_get-map (shown_of k.meaning (clean_after k h).text) (clean_rows k (clean_after k h)) i ∙ ap (option_map (shown_of k.meaning (clean_after k h).text)) e
 
   lies : (r : Row) → slice_get (clean_rows k (clean_after k h)) i ≡ Some r → Inside (clean_after k h).text r
-  lies r e = inside k (clean_after k h) f.covered i r e
+  lies r e = inside_clean k (clean_after k h) f.covered i r e
 
   roomy : (b : List ℕ) → most_characters ≤ length b → (r : Row) → slice_get (clean_rows k (clean_after k h)) i ≡ Some r → r.end - r.start ≤ length b
   roomy b n r e = omega (arith, (lies r e).within, f.few)

@@ -13,6 +13,7 @@ use Rattle.reflow.specs.declared.repaint.Repaint.{Repaint}
 use Rattle.sheet.specs.Clean.{Making, Clean, Call, Answer, Step, clean_rows, step, refuse, settle_by}
 use Rattle.sheet.specs.Clean.Answer.{accepted, refused, settled}
 use Rattle.sheet.specs.Clean.Call.{refresh, settle}
+use Rattle.sheet.specs.Laid.{Laid}
 use Rattle.sheet.specs.Histories.{Event, History, State, Follows, Agrees, AgreesAt, Lawful, clean_after, screen_after, clean_screen, due, event, follows}
 
 -- what the worked sheet has to show after a call, n being the clean sheet after it
@@ -79,7 +80,7 @@ pub record Owes (s s' : State) (o : Option Repaint) : Type 0 where
 pub as_it_was : (s : State) → Owes s s s.owed
 as_it_was s = record { meaning = refl; rules = refl; sound = λ x. x; measure = refl; text = refl; rows = refl; owed = refl }
 
--- a sheet's text is covered, and its rows are the text's rows by first fit
+-- a sheet's text is covered, and its rows are the text's rows by first fit: it is laid
 module _ (k : Making) (h : History) (s : State) (f : Follows k h s) where
   pub own_text : Covered s.meaning s.text
   own_text = subst₂ Covered (sym f.meaning) (sym f.text) f.covered
@@ -88,6 +89,9 @@ module _ (k : Making) (h : History) (s : State) (f : Follows k h s) where
   own_rows =
       let same : rows_of s.meaning s.rules s.measure s.text ≡ clean_rows k (clean_after k h) = λ i. rows_of (f.meaning i) (f.rules i) (f.measure i) (f.text i) in
       f.rows ∙ sym same
+
+  pub laid_sheet : Laid (record { meaning = s.meaning; rules = s.rules; measure = s.measure }) s.text s.rows
+  laid_sheet = record { covered = own_text; first_fit = own_rows }
 
 module _ (k : Making) (h : History) (s s' : State) (f : Follows k h s) where
   pub keeps_up : (o o' : Option Repaint) → Owes s s' o → o ≡ o' → KeepsUp k (record { text = (clean_after k h).text; measure = (clean_after k h).measure; owed = o' }) s s'

@@ -1,5 +1,5 @@
 -- How a clean sheet tells the edges of a row, and that the worked one tells the same.
-use Rattle.std.proofs.Common.{◌≡◌, ℕ, zero, suc, ◌+◌, ◌-◌, ◌<◌, ◌≤◌, leb, List, length, drop, Some, None, Option, Result, sym, refl, ap, ◌∙◌, subst, subst₂, inl, inr, arith}
+use Rattle.std.proofs.Common.{◌≡◌, ℕ, zero, suc, ◌+◌, ◌-◌, ◌<◌, ◌≤◌, leb, List, length, drop, Some, None, Option, Result, sym, refl, ap, ◌∙◌, subst, inl, inr, arith}
 use Rattle.std.proofs.lemmas.Bool.{cases_Bool}
 use Rattle.std.proofs.lemmas.List.{length-take}
 use Rattle.std.specs.List.{slice_get}
@@ -13,13 +13,15 @@ use Rattle.layout.specs.Covers.{Covered, AllCovered}
 use Rattle.layout.specs.FirstFit.{RowFrom, RowsFrom}
 use Rattle.layout.specs.FirstFit.RowFrom.{whole, wrapped, cut, single, lone}
 use Rattle.layout.specs.FirstFit.RowsFrom.{end, more}
-use Rattle.reflow.proofs.AllRows.{all_rows}
+use Rattle.layout.specs.Styles.{Style}
 use Rattle.sheet.specs.Clean.{Making, Clean, clean_rows}
 use Rattle.sheet.specs.Edges.{measured, edges_by, edges_step}
 use Rattle.sheet.specs.Faults.{row_answer}
 use Rattle.sheet.specs.Fitting.{fitted, within}
 use Rattle.sheet.specs.declared.fault.RowFault.{RowFault}
-use Rattle.sheet.proofs.Showing.{as_clean, left}
+use Rattle.sheet.specs.Laid.{Laid}
+use Rattle.sheet.proofs.Continuing.{laid_sheet}
+use Rattle.sheet.proofs.Showing.{as_clean, in_rows, left}
 use Rattle.sheet.specs.Histories.{History, State, Follows, clean_after}
 use Rattle.layout.proofs.EdgeSteps.{seen_part}
 
@@ -45,12 +47,13 @@ module _ (m : Meaning) (P : Rules) (w : ℕ) (t : List ℕ) where
   rows_covered v (more {s = s} {r = r} s' f n fs) zero r' e = let is : r ≡ r' = cc in subst (λ (x : Row). AllCovered m (part t x.start x.end)) is (row_covered s r v f)
   rows_covered v (more s' f n fs) (suc i) r' e = rows_covered v fs i r' e
 
--- each row of a sheet is covered
-pub all_covered : (k : Making) (h : History) (s : State) → Follows k h s → (i : ℕ) (r : Row) → slice_get (clean_rows k (clean_after k h)) i ≡ Some r → AllCovered s.meaning (part s.text r.start r.end)
-all_covered k h s f i r e =
-    let c = clean_after k h in
-    subst₂ (λ (m : Meaning) (t : List ℕ). AllCovered m (part t r.start r.end)) (sym f.meaning) (sym f.text)
-    (rows_covered k.meaning k.rules c.measure c.text f.covered (all_rows k.meaning k.rules c.measure c.text f.covered) i r e)
+-- each row of a laid text is covered
+pub all_covered : {k : Style} {t : List ℕ} {rows : List Row} → Laid k t rows → (i : ℕ) (r : Row) → slice_get rows i ≡ Some r → AllCovered k.meaning (part t r.start r.end)
+all_covered {k = k} {t = t} laid i r e = rows_covered k.meaning k.rules k.measure t laid.covered (in_rows laid) i r e
+
+-- and so is each row of a sheet
+pub covered_row : (k : Making) (h : History) (s : State) → Follows k h s → (i : ℕ) (r : Row) → slice_get (clean_rows k (clean_after k h)) i ≡ Some r → AllCovered s.meaning (part s.text r.start r.end)
+covered_row k h s f i r e = all_covered (laid_sheet k h s f) i r (ap (λ (rs : List Row). slice_get rs i) f.rows ∙ e)
 
 -- how a clean sheet tells edges
 tells : (k : Making) (c : Clean) (b : List ℕ) (o : Option Row) → edges_by k c o b ≡ row_answer (fitted (length b) o) (left (measured k.meaning c.text) (fitted (length b) o) b)

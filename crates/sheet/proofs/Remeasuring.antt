@@ -23,10 +23,10 @@ use Rattle.sheet.proofs.Replacing.{some_owed}
 
 -- a layout that was not refused has all rows
 module _ (m : Meaning) (P : Rules) (w : ℕ) (t : List ℕ) (v : Covered m t) where
-  laid_all : (laid m P w t).answer ≡ Ok tt → (laid m P w t).rows ≡ rows_of m P w t
+  pub laid_all : (laid m P w t).answer ≡ Ok tt → (laid m P w t).rows ≡ rows_of m P w t
   laid_all e = (layout_laws m P w).only_one t 0 (laid m P w t).rows (rows_of m P w t) ((layout_laws m P w).are_first_fit t most_rows 0 (omega arith) e) (all_rows m P w t v)
 
-  all_few : (laid m P w t).answer ≡ Ok tt → length (rows_of m P w t) ≤ most_rows
+  pub all_few : (laid m P w t).answer ≡ Ok tt → length (rows_of m P w t) ≤ most_rows
   all_few e = subst (λ (rs : List Row). length rs ≤ most_rows) (laid_all e) (laid_few m P w t most_rows 0)
 
   -- and one that was refused has too many
@@ -95,16 +95,16 @@ module _ (k : Making) (h : History) (s s' : State) (f : Follows k h s) (w : ℕ)
   refused_many none many o =
       refused_call k h s s' f (remeasure w) (5 ∷ []) (too_many k (clean_after k h) w (sym f.owed ∙ none) (subst (λ (rs : List Row). most_rows < length rs) same_rows many)) o
 
-laid_right : (a : Result (Unit {0}) LayFault) → is_err a ≡ false → a ≡ Ok tt
+pub laid_right : (a : Result (Unit {0}) LayFault) → is_err a ≡ false → a ≡ Ok tt
 laid_right (Ok x) e = refl
 laid_right (Err f) e = cc
 
 -- as many rows were broken as there are
-broken_all : (m : Meaning) (P : Rules) (w : ℕ) (t : List ℕ) → Covered m t → (laid m P w t).answer ≡ Ok tt → broken_for (laid m P w t) ≡ length (rows_of m P w t)
+pub broken_all : (m : Meaning) (P : Rules) (w : ℕ) (t : List ℕ) → Covered m t → (laid m P w t).answer ≡ Ok tt → broken_for (laid m P w t) ≡ length (rows_of m P w t)
 broken_all m P w t v e = ap₂ (λ (rs : List Row) (a : Result (Unit {0}) LayFault). length rs + missed a) (laid_all m P w t v e) e ∙ add-zero (length (rows_of m P w t))
 
 -- what a tally grew by
-grown : (e a n : ℕ) → e < 2 ^ 64 → n ≤ 1024 → a ≡ (e + n) % 2 ^ 64 → (a + (2 ^ 64 - e)) % 2 ^ 64 ≡ n
+pub grown : (e a n : ℕ) → e < 2 ^ 64 → n ≤ 1024 → a ≡ (e + n) % 2 ^ 64 → (a + (2 ^ 64 - e)) % 2 ^ 64 ≡ n
 grown e a n h few is = omega arith
 
 -- all rows of a text are in the list, and the tally counts them

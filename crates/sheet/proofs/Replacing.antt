@@ -4,6 +4,7 @@ use borrow.Author.Tests.{lt-leb}
 use Rattle.std.proofs.lemmas.List.{length-append, length-take, length-drop}
 use Rattle.std.proofs.lemmas.Bool.{and_from, and_left, and_right, cases_lt}
 use Rattle.metrics.specs.Meaning.{Meaning}
+use Rattle.page.specs.Policies.{Rules}
 use Rattle.page.specs.Texts.{edited, most_characters}
 use Rattle.page.specs.declared.row.Row.{Row}
 use Rattle.layout.proofs.Covering.{covered_from}
@@ -24,8 +25,9 @@ use Rattle.sheet.specs.Faults.{Early}
 use Rattle.sheet.specs.Clean.{Making, Clean, clean_rows, refuse, replaced, replace_step, edit_of}
 use Rattle.sheet.specs.Clean.Answer.{accepted, refused}
 use Rattle.sheet.specs.Clean.Call.{replace}
+use Rattle.sheet.specs.Laid.{Laid}
 use Rattle.sheet.specs.Histories.{History, State, Follows, clean_after, screen_after, clean_screen, due, event}
-use Rattle.sheet.proofs.Continuing.{Owes, own_text, own_rows, goes_on_by, refused_call}
+use Rattle.sheet.proofs.Continuing.{Owes, laid_sheet, goes_on_by, refused_call}
 
 covered_append : (m : Meaning) (xs ys : List ℕ) → Covered m xs → Covered m ys → Covered m (xs ++ ys)
 covered_append m [] ys a b = b
@@ -44,7 +46,7 @@ covered_take m (suc i) (x ∷ t) v = go (covered_take m i t (λ k. v (suc k)))
     go rest zero c e n = v zero c e n
     go rest (suc k) c e n = rest k c e n
 
-covered_edited : (m : Meaning) (t : List ℕ) (at del : ℕ) (ins : List ℕ) → Covered m t → first_uncovered m 0 ins ≡ None → Covered m (edited t at del ins)
+pub covered_edited : (m : Meaning) (t : List ℕ) (at del : ℕ) (ins : List ℕ) → Covered m t → first_uncovered m 0 ins ≡ None → Covered m (edited t at del ins)
 covered_edited m t at del ins v e =
     covered_append m (take at t) (ins ++ drop (at + del) t) (covered_take m at t v)
     (covered_append m ins (drop (at + del) t) (covered_from_none m 0 ins e) (covered_from m t (at + del) v))
@@ -108,17 +110,23 @@ pub record Admits (m : Meaning) (t : List ℕ) (at del : ℕ) (ins : List ℕ) :
   pub fits : length t - del + length ins ≤ most_characters
   pub glyphs : first_uncovered m 0 ins ≡ None
 
--- what relaying a sheet's text after an edit comes to. The insertion was looked over before, which left what
--- the measurer means as it was
+-- what relaying a laid text after an edit comes to. The insertion was looked over before, which left the
+-- meaning m as it was
+pub laid_anew : {m m' : Meaning} {P : Rules} {w : ℕ} {t t' : List ℕ} {old old' : List Row} {at del : ℕ} {ins : List ℕ} (r : Result Repaint LayFault) (rows : List Row) (before after : ℕ)
+    → Laid (record { meaning = m; rules = P; measure = w }) t old → m' ≡ m → Admits m t at del ins
+    → t' ≡ edited t at del ins → old' ≡ old → Relaid m' P w t' (edit_of at del ins) old' r rows before after
+    → MatchResult r (λ p. RelaidTo (edit_of at del ins) old (rows_of m P w (edited t at del ins)) p rows before after) (λ f. (f ≡ TooManyRows) × (most_rows < length (rows_of m P w (edited t at del ins))))
+laid_anew {m = m} {P = P} {w = w} {t = t} {old = old} {at = at} {del = del} {ins = ins} r rows before after laid same a becomes is relaid =
+    let to : Relaid m P w (edited t at del ins) (edit_of at del ins) old r rows before after =
+    coe 0 1 (i. Relaid (same i) P w (becomes i) (edit_of at del ins) (is i) r rows before after) relaid in
+    to t ins refl (record { within = omega (arith, a.in_text, a.in_rest); long = refl; covered = laid.covered; covers = covered_edited m t at del ins laid.covered a.glyphs }) laid.first_fit
+
+-- and what relaying a sheet's text comes to
 module _ (k : Making) (h : History) (s : State) (f : Follows k h s) (at del : ℕ) (ins : List ℕ) (a : Admits s.meaning s.text at del ins) where
-  pub laid_anew : {m' : Meaning} {t' : List ℕ} {old' : List Row} (r : Result Repaint LayFault) (rows : List Row) (before after : ℕ)
+  pub sheet_anew : {m' : Meaning} {t' : List ℕ} {old' : List Row} (r : Result Repaint LayFault) (rows : List Row) (before after : ℕ)
       → m' ≡ s.meaning → t' ≡ edited s.text at del ins → old' ≡ s.rows → Relaid m' s.rules s.measure t' (edit_of at del ins) old' r rows before after
       → MatchResult r (λ p. RelaidTo (edit_of at del ins) s.rows (rows_of s.meaning s.rules s.measure (edited s.text at del ins)) p rows before after) (λ e. (e ≡ TooManyRows) × (most_rows < length (rows_of s.meaning s.rules s.measure (edited s.text at del ins))))
-  laid_anew r rows before after same becomes is relaid =
-      let to : Relaid s.meaning s.rules s.measure (edited s.text at del ins) (edit_of at del ins) s.rows r rows before after =
-      coe 0 1 (i. Relaid (same i) s.rules s.measure (becomes i) (edit_of at del ins) (is i) r rows before after) relaid in
-      let covered = own_text k h s f in
-      to s.text ins refl (record { within = omega (arith, a.in_text, a.in_rest); long = refl; covered = covered; covers = covered_edited s.meaning s.text at del ins covered a.glyphs }) (own_rows k h s f)
+  sheet_anew r rows before after same becomes is relaid = laid_anew r rows before after (laid_sheet k h s f) same a becomes is relaid
 
 module _ (k : Making) (h : History) (s s' : State) (f : Follows k h s) (at del : ℕ) (ins : List ℕ) (none : s.owed ≡ None) (a : Admits s.meaning s.text at del ins) where
   at_clean : Admits k.meaning (clean_after k h).text at del ins

@@ -1,5 +1,5 @@
 -- How a clean sheet shows a row, and that the worked one shows the same.
-use Rattle.std.proofs.Common.{◌≡◌, ℕ, zero, suc, ◌-◌, ◌<◌, ◌≤◌, leb, min, List, ◌∷◌, length, Some, None, Option, Ok, Err, Result, refl, ap, ◌∙◌, subst, inl, inr, arith}
+use Rattle.std.proofs.Common.{◌≡◌, ℕ, zero, suc, ◌-◌, ◌<◌, ◌≤◌, leb, min, List, ◌∷◌, length, Some, None, Option, Ok, Err, Result, sym, refl, ap, ◌∙◌, subst, inl, inr, arith}
 use Rattle.std.proofs.lemmas.Bool.{cases_Bool, cases_lt, le-leb, lt-leb}
 use Rattle.std.specs.List.{slice_get}
 use Rattle.std.specs.Option.{option_map}
@@ -10,6 +10,7 @@ use Rattle.layout.proofs.Following.{placed}
 use Rattle.layout.specs.Covers.{Covered}
 use Rattle.layout.specs.FirstFit.{RowFrom, RowsFrom}
 use Rattle.layout.specs.FirstFit.RowsFrom.{end, more}
+use Rattle.layout.specs.Styles.{Style}
 use Rattle.reflow.proofs.AllRows.{all_rows}
 use Rattle.reflow.proofs.ScreenBack.{row_upto}
 use Rattle.reflow.specs.Screens.{painted}
@@ -18,6 +19,7 @@ use Rattle.sheet.specs.Clean.Call.{row}
 use Rattle.sheet.specs.Faults.{row_answer}
 use Rattle.sheet.specs.Fitting.{fitted, within}
 use Rattle.sheet.specs.Histories.{History, State, Follows, clean_after, clean_screen, screen_after, due, event, follows}
+use Rattle.sheet.specs.Laid.{Laid}
 use Rattle.sheet.specs.declared.fault.RowFault.{RowFault}
 use Rattle.sheet.specs.declared.fault.RowFault.TheVariants.{ShortBuffer}
 use Rattle.sheet.proofs.Continuing.{as_it_was, goes_on_by, keeps_up}
@@ -37,16 +39,24 @@ module _ (m : Meaning) (P : Rules) (w : ℕ) (t : List ℕ) where
   rows_inside (more {s = s} {r = r} s' f n fs) zero r' e = let is : r ≡ r' = cc in subst (Inside t) is (row_inside s r f)
   rows_inside (more s' f n fs) (suc i) r' e = rows_inside fs i r' e
 
--- the rows of a clean sheet lie within its text
+-- the rows of a laid text are its rows by first fit
+pub in_rows : {k : Style} {t : List ℕ} {rows : List Row} → Laid k t rows → RowsFrom k.meaning k.rules k.measure t 0 rows
+in_rows {k = k} {t = t} laid = subst (RowsFrom k.meaning k.rules k.measure t 0) (sym laid.first_fit) (all_rows k.meaning k.rules k.measure t laid.covered)
+
+-- each row of a laid text lies within it
+pub inside : {k : Style} {t : List ℕ} {rows : List Row} → Laid k t rows → (i : ℕ) (r : Row) → slice_get rows i ≡ Some r → Inside t r
+inside {k = k} {t = t} {rows = rows} laid i r e = rows_inside k.meaning k.rules k.measure t (in_rows laid) i r e
+
+-- and so do the rows of a clean sheet
 module _ (k : Making) (c : Clean) (v : Covered k.meaning c.text) (i : ℕ) where
-  pub inside : (r : Row) → slice_get (clean_rows k c) i ≡ Some r → Inside c.text r
-  inside r e = rows_inside k.meaning k.rules c.measure c.text (all_rows k.meaning k.rules c.measure c.text v) i r e
+  pub inside_clean : (r : Row) → slice_get (clean_rows k c) i ≡ Some r → Inside c.text r
+  inside_clean r e = inside {k = record { meaning = k.meaning; rules = k.rules; measure = c.measure }} (record { covered = v; first_fit = refl }) i r e
 
   -- so that nothing of them is cut
   uncut : (o : Option Row) → slice_get (clean_rows k c) i ≡ o → option_map (within (length c.text)) o ≡ o
   uncut None e = refl
   uncut (Some r) e =
-      let lies = inside r e in
+      let lies = inside_clean r e in
       let from : min r.start (min r.end (length c.text)) ≡ r.start = omega (arith, lies.forward, lies.within) in
       let to : min r.end (length c.text) ≡ r.end = omega (arith, lies.within) in
       λ j. Some (record { start = from j; end = to j; ending = r.ending; width = r.width; reach = r.reach })

@@ -4,4 +4,5 @@ pub mod Edges
 pub mod Faults
 pub mod Fitting
 pub mod Histories
+pub mod Laid
 pub mod States

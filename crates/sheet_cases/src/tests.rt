@@ -13,6 +13,7 @@ use page::policy::{Policy, Spaces};
 use page::row::Row;
 use reflow::repaint::Repaint;
 use sheet::fault::ReplaceFault;
+use sheet::law::law;
 use sheet::sheet::Sheet;
 use std::process::Abort;
 use std::test::Fail;
@@ -169,5 +170,19 @@ fn record_kept_beside_its_sheet(rt: HostRuntime) -> Result<(), Fail> {
     let slip = desk.sheet.replace(0, 0, b"a bc")?;
     assert!(rt; desk.sheet.settle(slip, &mut desk.record).is_ok());
     assert_eq!(rt; Some(desk.record), record(0, 1, 2, 2));
+    Ok(())
+}
+
+#[test]
+fn law_looked_at_between_calls(rt: HostRuntime) -> Result<(), Fail> {
+    let setter = Setter::new(Cells::new(500)?, Spaces, Measure::new(1_000)?);
+    let mut sheet = Sheet::new(rt.alloc(), setter)?;
+    law(&sheet);
+    replaces(&rt, &mut sheet, 0, 0, b"a bc", record(0, 1, 2, 2))?;
+    law(&sheet);
+    assert_eq!(rt;
+        (sheet.row_count(), sheet.char_count(), sheet.tally()),
+        (2, 4, 2)
+    );
     Ok(())
 }

@@ -17,7 +17,7 @@ use Rattle.sheet.specs.Clean.{Making, edit_of}
 use Rattle.sheet.specs.Histories.{History, Follows}
 use Rattle.sheet.specs.States.{state}
 use Rattle.sheet.proofs.Continuing.{as_it_was}
-use Rattle.sheet.proofs.Replacing.{Admits, laid_anew, none_owed, never_early, replaced_call, refused_owed, refused_out, refused_long, refused_glyph, refused_many}
+use Rattle.sheet.proofs.Replacing.{Admits, sheet_anew, none_owed, never_early, replaced_call, refused_owed, refused_out, refused_long, refused_glyph, refused_many}
 use Rattle.sheet.proofs.sheet.Sheet.replace.Given.{Over}
 use Rattle.sheet.proofs.sheet.Sheet.replace.Goals as goal
 use Rattle.sheet.proofs.sheet.Sheet.replace.Goals.{After-relay, then-at-len-via-then-at-len, then-at-len-via-else-at-len+then-del-len}
@@ -82,7 +82,7 @@ relayed g c k h f r relaid =
     let checked = c.in_ok-check_cover.ensures in
     let a : Admits (g.M.Measurer.meaning c.args.self.now.setter.measurer) (held c.args.self.now.text) c.args.at c.args.del c.args.ins.now =
     record { in_text = omega arith; in_rest = omega arith; fits = omega arith; glyphs = told_none (first_uncovered (g.M.Measurer.meaning c.args.self.now.setter.measurer) 0 c.args.ins.now) tt (checked.value f.sound) } in
-    (a, laid_anew k h _ f c.args.at c.args.del c.args.ins.now a r _ _ _ checked.same c.new-view.ensures c.as_slice.ensures.value (relaid (checked.stays f.sound)))
+    (a, sheet_anew k h _ f c.args.at c.args.del c.args.ins.now a r _ _ _ checked.same c.new-view.ensures c.as_slice.ensures.value (relaid (checked.stays f.sound)))
 
 pub returns-in_err-record : goal.returns-in_err-record
 returns-in_err-record g c =
