@@ -11,6 +11,7 @@ use Rattle.reflow.specs.Screens.{Shown, painted, blank, followed}
 use Rattle.reflow.specs.declared.repaint.Repaint.{Repaint}
 use Rattle.sheet.specs.Clean.{Making, Clean, Call, Answer, fresh, clean_rows, step}
 use Rattle.sheet.specs.Clean.Answer.{accepted, refused, settled, shown}
+use Rattle.sheet.specs.Laid.{Laid}
 
 -- a call, its answer, and the text and rows of the worked sheet after it
 pub record Event : Type 0 where
@@ -118,3 +119,7 @@ Continues s call answer s' = (k : Making) (h : History) → Follows k h s → Fo
 -- its records showed them.
 abbrev pub Lawful : State → Type 0
 Lawful s = (k : Making) (h later earlier : History) (e : Event) → Follows k h s → h ≡ later ++ (e ∷ earlier) → AgreesAt k e earlier
+
+-- Whatever calls a sheet has had, its text stands in its rows at its measure.
+abbrev pub StaysLaid : State → Type 0
+StaysLaid s = (k : Making) (h : History) → Follows k h s → Laid (record { meaning = s.meaning; rules = s.rules; measure = s.measure }) s.text s.rows
